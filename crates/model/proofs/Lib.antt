@@ -1,0 +1,12 @@
+pub mod Digits
+pub mod Packing
+pub mod FirstLaws
+pub mod Odd
+pub mod Search
+pub mod Refill
+pub mod Order
+pub mod Grown
+pub mod Added
+pub mod Adds
+pub mod Tells
+pub mod Sound

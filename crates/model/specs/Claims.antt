@@ -1,0 +1,144 @@
+-- What is claimed of all this: the three demands. Proved in proofs/Demand1.antt and proofs/Demands.antt.
+use mathlib.Core.Path.{_≡_}
+use mathlib.Core.Logic.{_⊎_}
+use mathlib.Core.Bool.{Bool, true}
+use mathlib.Core.List.{List, [], _∷_, map, List·Memᴰ}
+use Prim.Native.Nat.{ℕ, _+_, _*_, _/_, _%_, _-_, _^_, _<_, _≤_}
+use lib.ListN.{length, getD, take, replicate}
+use Rattle.model.specs.Coupon.{value, slot, home}
+use Rattle.model.specs.Registers.{fed, countOf}
+use Rattle.model.specs.Packed.{Bytes}
+use Rattle.model.specs.Table.{baseFor, tableSize, Member}
+use Rattle.model.specs.Four.{NoRoom}
+use Rattle.model.specs.Sketch.{isKind, bytesOf, cells, registers, Good}
+use Rattle.model.specs.Calls.{Out, out, nothing, startOf, feedOf, unpackOf, viewOf, mergeOf, sumsOf}
+use Rattle.model.specs.Image.{imageIn, writeOf, sketchIn, regsIn, compactIn, wordCount, entriesIn, openOf}
+use Rattle.model.specs.History.{Place, here, Call, run}
+use Rattle.model.specs.declared.Sketch.{Sketch}
+
+-- ---- demand 1: every call answers by the table
+-- the answer is n unless Q holds; then the next line decides
+abbrev pub Unless : ℕ → Type 0 → (ℕ → Type 0) → ℕ → Type 0
+Unless n Q next answer = ((Q → ⊥) × (answer ≡ n)) ⊎ (Q × next answer)
+
+-- no line applies
+abbrev pub Ok : ℕ → Type 0
+Ok answer = answer ≡ 0
+
+-- KIND, LGK, SIZE
+abbrev pub ShapeLines : ℕ → ℕ → ℕ → (ℕ → Type 0) → ℕ → Type 0
+ShapeLines kind lgk len next =
+    Unless 1 ((kind ≡ 4) ⊎ ((kind ≡ 6) ⊎ (kind ≡ 8)))
+    (Unless 2 ((4 ≤ lgk) × (lgk ≤ 21))
+    (Unless 3 (len ≡ bytesOf kind lgk) next))
+
+-- KIND, LGK, SIZE (also of what else is lent), DAMAGED
+abbrev pub SketchLines : Type 0 → Sketch → List ℕ → List ℕ → (ℕ → Type 0) → ℕ → Type 0
+SketchLines lent s regs aux next = ShapeLines (s .kind) (s .«lg_k») (length regs) (Unless 3 lent (Unless 4 (Good s regs aux) next))
+
+-- scratch is not shorter than the exception area, where there is one
+abbrev pub Scratch : ℕ → List ℕ → List ℕ → Type 0
+Scratch kind aux scratch = kind ≡ 4 → length aux ≤ length scratch
+
+-- coupon i of the batch finds no room, in registers that the coupons before it have fed
+abbrev pub StopsAt : Sketch → List ℕ → List ℕ → List ℕ → ℕ → Type 0
+StopsAt s regs aux cs i =
+    (s .kind ≡ 4) × NoRoom (baseFor (s .«lg_k»)) (length aux) (fed (2 ^ s .«lg_k») (registers s regs aux) (take i cs)) (home (2 ^ s .«lg_k») (getD cs i 0)) (value (getD cs i 0))
+
+-- no coupon before the first n finds no room
+abbrev pub GoesTo : Sketch → List ℕ → List ℕ → List ℕ → ℕ → Type 0
+GoesTo s regs aux cs n = (i : ℕ) → i < n → StopsAt s regs aux cs i → ⊥
+
+-- feed's answer behind its checks: all coupons are taken, or NO_ROOM at the first that finds none
+abbrev pub FeedLine : Sketch → List ℕ → List ℕ → List ℕ → ℕ → ℕ → Type 0
+FeedLine s regs aux cs count answer =
+    ((answer ≡ 0) × (count ≡ length cs) × GoesTo s regs aux cs count)
+    ⊎ ((answer ≡ 6) × (count < length cs) × StopsAt s regs aux cs count × GoesTo s regs aux cs count)
+
+-- a word is listed for slot i of k
+abbrev pub Listed : ℕ → List ℕ → ℕ → Type 0
+Listed k words i = (w : ℕ) × Member words w × (home k w ≡ i)
+
+-- AUX: each entry's value is an exception's (so none is empty), no slot twice, as many as the count, and the slots listed are those of the nibbles 15
+pub record Entries (s : Sketch) (nibbles words : List ℕ) : Type 0 where
+  pub high : (i : ℕ) → i < length words → s .«cur_min» + 15 ≤ value (getD words i 0)
+  pub apart : (i j : ℕ) → i < length words → j < length words → home (2 ^ s .«lg_k») (getD words i 0) ≡ home (2 ^ s .«lg_k») (getD words j 0) → i ≡ j
+  pub count : length words ≡ s .«aux_count»
+  pub listed : (i : ℕ) → i < 2 ^ s .«lg_k» → Listed (2 ^ s .«lg_k») words i → getD nibbles i 0 ≡ 15
+  pub lists : (i : ℕ) → i < 2 ^ s .«lg_k» → getD nibbles i 0 ≡ 15 → Listed (2 ^ s .«lg_k») words i
+
+-- the lines of opening: SHORT, HEADER, MODE, LGK, SIZE, COUNTS, LGARR, SHORT, NO_ROOM, VALUE, AUX, SPARE, TALLY
+abbrev pub OpenLines : List ℕ → List ℕ → List ℕ → List ℕ → ℕ → Type 0
+OpenLines l regs aux scratch =
+    let s = sketchIn l in
+    let k = 2 ^ s .«lg_k» in
+    let ns = cells s (regsIn l) in
+    Unless 7 (40 ≤ length l)
+    (Unless 8 ((getD l 0 0 ≡ 10) × ((getD l 1 0 ≡ 1) × (getD l 2 0 ≡ 7)))
+    (Unless 9 ((getD l 7 0 ≡ 2) ⊎ ((getD l 7 0 ≡ 6) ⊎ (getD l 7 0 ≡ 10)))
+    (Unless 2 ((4 ≤ s .«lg_k») × (s .«lg_k» ≤ 21))
+    (Unless 3 (length regs ≡ bytesOf (s .kind) (s .«lg_k»))
+    (Unless 3 (Scratch (s .kind) aux scratch)
+    (Unless 10 ((s .«num_at_cur_min» ≤ k) × ((s .«aux_count» ≤ k) × ((s .«cur_min» ≤ 63) × ((s .kind ≡ 4 → ⊥) → (s .«cur_min» ≡ 0) × (s .«aux_count» ≡ 0)))))
+    (Unless 11 (s .kind ≡ 4 → (compactIn l ≡ true → ⊥) → (s .«aux_count» ≡ 0 → ⊥) → getD l 4 0 ≤ 22)
+    (Unless 7 (40 + bytesOf (s .kind) (s .«lg_k») + 4 * wordCount l ≤ length l)
+    (Unless 6 (s .kind ≡ 4 → tableSize (baseFor (s .«lg_k»)) (s .«aux_count») ≤ length aux)
+    (Unless 12 ((i : ℕ) → i < k → ((s .kind ≡ 4) × (getD ns i 0 ≡ 15) → ⊥) → s .«cur_min» + getD ns i 0 ≤ 63)
+    (Unless 13 (s .kind ≡ 4 → Entries s ns (entriesIn l))
+    (Unless 14 (s .kind ≡ 6 → getD (regsIn l) (length (regsIn l) - 1) 0 ≡ 0)
+    (Unless 15 ((s .«num_at_cur_min» ≡ countOf 0 ns) × (s .kind ≡ 4 → 0 < s .«num_at_cur_min»))
+    Ok)))))))))))))
+
+-- each refusal exactly when its line of the table says; lent registers are bytes
+pub record Demand1 : Type 0 where
+  pub start-lines : (kind lgk : ℕ) (regs aux : List ℕ) → ShapeLines kind lgk (length regs) Ok (startOf kind lgk regs aux .no)
+  pub feed-lines : (s : Sketch) (regs aux scratch cs : List ℕ) → Bytes regs
+      → SketchLines (Scratch (s .kind) aux scratch) s regs aux (FeedLine s regs aux cs (feedOf s regs aux scratch cs .count)) (feedOf s regs aux scratch cs .no)
+  pub unpack-lines : (s : Sketch) (regs aux buf : List ℕ) → Bytes regs → SketchLines (length buf ≡ 2 ^ s .«lg_k») s regs aux Ok (unpackOf s regs aux buf .no)
+  pub merge-lines : (t : Sketch) (tregs : List ℕ) (s : Sketch) (sregs saux : List ℕ) → Bytes tregs → Bytes sregs
+      → Unless 1 (t .kind ≡ 8) (SketchLines (Unit {0}) t tregs [] (SketchLines (Unit {0}) s sregs saux (Unless 5 (t .«lg_k» ≤ s .«lg_k») Ok))) (mergeOf t tregs s sregs saux .no)
+  pub sums-lines : (s : Sketch) (regs aux : List ℕ) → Bytes regs → SketchLines (Unit {0}) s regs aux Ok (sumsOf s regs aux .no)
+  pub write-lines : (s : Sketch) (regs aux buf : List ℕ) → Bytes regs
+      → SketchLines (Unit {0}) s regs aux (Unless 16 (length (imageIn s regs aux) ≤ length buf) Ok) (writeOf s regs aux buf .no)
+  pub open-lines : (l regs aux scratch : List ℕ) → OpenLines l regs aux scratch (openOf l regs aux scratch .no)
+
+-- and then nothing lent changes, save that a batch stopped by NO_ROOM keeps the coupons that it took
+pub record Unchanged : Type 0 where
+  pub start-same : (kind lgk : ℕ) (regs aux : List ℕ) → let o = startOf kind lgk regs aux in (o .no ≡ 0 → ⊥) → o ≡ out (o .no) nothing 0 regs aux
+  pub feed-same : (s : Sketch) (regs aux scratch cs : List ℕ) → let o = feedOf s regs aux scratch cs in (o .no ≡ 0 → ⊥) → (o .no ≡ 6 → ⊥) → o ≡ out (o .no) s 0 regs aux
+  pub unpack-same : (s : Sketch) (regs aux buf : List ℕ) → (unpackOf s regs aux buf .no ≡ 0 → ⊥) → unpackOf s regs aux buf .out ≡ buf
+  pub merge-same : (t : Sketch) (tregs : List ℕ) (s : Sketch) (sregs saux : List ℕ) → let o = mergeOf t tregs s sregs saux in (o .no ≡ 0 → ⊥) → o ≡ out (o .no) t 0 tregs []
+  pub write-same : (s : Sketch) (regs aux buf : List ℕ) → let o = writeOf s regs aux buf in (o .no ≡ 0 → ⊥) → (o .len ≡ 0) × (o .out ≡ buf)
+  pub open-same : (l regs aux scratch : List ℕ) → let o = openOf l regs aux scratch in (o .no ≡ 0 → ⊥) → o ≡ out (o .no) nothing 0 regs aux
+
+-- ---- demands 2 and 3: over any history
+-- x is the largest value among the coupons of got for slot i of k, or zero where there is none
+pub record IsLargest (k i : ℕ) (got : List ℕ) (x : ℕ) : Type 0 where
+  pub above : (c : ℕ) → List·Memᴰ c got → home k c ≡ i → value c ≤ x
+  pub among : 0 < x → (c : ℕ) × List·Memᴰ c got × (home k c ≡ i) × (value c ≡ x)
+
+-- demand 2: each register of each sketch, of any kind, is the largest value among the coupons taken for its slot, or zero
+abbrev pub Demand2 : Type 0
+Demand2 = (calls : List Call) (n : ℕ) (s : Sketch) (regs aux got : List ℕ) → run calls n ≡ here s regs aux got
+    → (length (registers s regs aux) ≡ 2 ^ s .«lg_k») × ((i : ℕ) → i < 2 ^ s .«lg_k» → IsLargest (2 ^ s .«lg_k») i got (getD (registers s regs aux) i 0))
+
+-- two lists of coupons form the same set
+abbrev pub SameSet : List ℕ → List ℕ → Type 0
+SameSet p q = (c : ℕ) → (List·Memᴰ c p → List·Memᴰ c q) × (List·Memᴰ c q → List·Memᴰ c p)
+
+-- an empty kind 8 sketch, made in any memory of the right size, and fed cs in one batch
+abbrev pub freshlyFed : ℕ → List ℕ → List ℕ → Out
+freshlyFed lgk mem cs = let o = startOf 8 lgk mem [] in feedOf (o .sketch) (o .regs) [] [] cs
+
+-- a sketch has the registers of a call's, and whatever it is written into, the same image byte for byte
+pub record SameAs (o : Out) (s : Sketch) (regs aux : List ℕ) : Type 0 where
+  pub registers-same : registers s regs aux ≡ registers (o .sketch) (o .regs) (o .aux)
+  pub image-same : (buf : List ℕ) → writeOf s regs aux buf ≡ writeOf (o .sketch) (o .regs) (o .aux) buf
+
+-- demand 3: in any histories, two kind 8 sketches of one size that the same set of coupons has reached are the same as an empty one fed that set
+abbrev pub Demand3 : Type 0
+Demand3 = (calls₁ calls₂ : List Call) (n₁ n₂ : ℕ) (s₁ s₂ : Sketch) (regs₁ aux₁ got₁ regs₂ aux₂ got₂ : List ℕ)
+    → run calls₁ n₁ ≡ here s₁ regs₁ aux₁ got₁ → run calls₂ n₂ ≡ here s₂ regs₂ aux₂ got₂
+    → s₁ .kind ≡ 8 → s₂ .kind ≡ 8 → s₁ .«lg_k» ≡ s₂ .«lg_k» → SameSet got₁ got₂
+    → (mem cs : List ℕ) → length mem ≡ 2 ^ s₁ .«lg_k» → SameSet cs got₁
+    → SameAs (freshlyFed (s₁ .«lg_k») mem cs) s₁ regs₁ aux₁ × SameAs (freshlyFed (s₁ .«lg_k») mem cs) s₂ regs₂ aux₂

@@ -1,0 +1,62 @@
+-- Histories of starting, feeding and merging sketches, each with its memory to itself, and the coupons that have reached each.
+-- A call here is what its contract says: refused calls and stopped batches are part of a history too.
+use mathlib.Core.List.{List, [], _∷_, _++_}
+use Prim.Native.Nat.{ℕ}
+use lib.Dec.{eqb}
+use lib.ListN.{take}
+use Rattle.model.specs.Pick.{pick}
+use Rattle.model.specs.Calls.{Out, startOf, feedOf, mergeOf}
+use Rattle.model.specs.declared.Sketch.{Sketch}
+
+-- a numbered place: no sketch yet; or a record, its two lent memories, and the coupons that have reached it
+pub data Place : Type 0 where
+  none : Place
+  here : Sketch → List ℕ → List ℕ → List ℕ → Place
+
+-- what stands at each number
+abbrev pub World : Type 0
+World = ℕ → Place
+
+-- a call on the sketches by their numbers: start is handed memory with any contents, feed scratch and a batch, merge a target and a source
+pub data Call : Type 0 where
+  start : ℕ → ℕ → ℕ → List ℕ → List ℕ → Call
+  feed : ℕ → List ℕ → List ℕ → Call
+  merge : ℕ → ℕ → Call
+
+-- p at number n
+abbrev pub put : World → ℕ → Place → World
+put w n p i = pick (eqb i n) p (w i)
+
+-- a refused start makes no sketch and changes no memory
+abbrev pub started : Out → Place → Place
+started o p = pick (eqb (o .no) 0) (here (o .sketch) (o .regs) (o .aux) []) p
+
+-- the first `count` coupons of the batch have reached the sketch
+unfoldable pub feeds : Place → List ℕ → List ℕ → Place
+feeds none scratch cs = none
+feeds (here s regs aux got) scratch cs =
+    let o = feedOf s regs aux scratch cs in
+    here (o .sketch) (o .regs) (o .aux) (got ++ take (o .count) cs)
+
+-- all that has reached the source reaches the target, unless the merge is refused
+unfoldable pub merges : Place → Place → Place
+merges none q = none
+merges (here t tregs taux got) none = here t tregs taux got
+merges (here t tregs taux got) (here s sregs saux more) =
+    let o = mergeOf t tregs s sregs saux in
+    here (o .sketch) (o .regs) taux (pick (eqb (o .no) 0) (got ++ more) got)
+
+-- one call
+unfoldable pub step : World → Call → World
+step w (start n kind lgk regs aux) = put w n (started (startOf kind lgk regs aux) (w n))
+step w (feed n scratch cs) = put w n (feeds (w n) scratch cs)
+step w (merge n m) = put w n (merges (w n) (w m))
+
+-- calls one after the other
+unfoldable pub after : World → List Call → World
+after w [] = w
+after w (c ∷ cs) = after (step w c) cs
+
+-- a history, from no sketch at all
+abbrev pub run : List Call → World
+run calls = after (λ n. none) calls

@@ -1,0 +1,139 @@
+-- The image of a sketch, and what write and open do for every input. Little-endian throughout: fields of 32 and 64 bits are packed cells.
+use Prim.Native.Nat.{ℕ, _+_, _*_, _/_, _%_, _^_}
+use mathlib.Core.Bool.{Bool, true, false}
+use mathlib.Core.List.{List, [], _∷_, _++_, map}
+use lib.Dec.{eqb, leb}
+use lib.Ieee.{binary64, toBits}
+use lib.ListN.{length, getD, take, drop}
+use Rattle.model.specs.Pick.{pick, both, all, firstOf}
+use Rattle.model.specs.Coupon.{value, home, word}
+use Rattle.model.specs.Registers.{countOf}
+use Rattle.model.specs.Packed.{slotAt, unpacked, packed}
+use Rattle.model.specs.Table.{baseFor, tableSize, keeps, made}
+use Rattle.model.specs.Sketch.{sketchOf, bytesOf, recordOf, stored, areaOf, cells, tableIn, registers}
+use Rattle.model.specs.Check.{countsFit, valuesFit, spareFits, tallyFits, lgkNo, sizeNo, scratchFits, checkNo}
+use Rattle.model.specs.Sums.{kxq0, kxq1}
+use Rattle.model.specs.Calls.{Out, out, nothing}
+use Rattle.model.specs.declared.Sketch.{Sketch}
+
+-- ---- the layout
+-- byte 7: 2, 6 or 10
+abbrev pub modeOf : ℕ → ℕ
+modeOf kind = pick (eqb kind 8) 10 (pick (eqb kind 6) 6 2)
+
+-- byte 5: out of order, and compact for kind 4
+abbrev pub flagsOf : ℕ → ℕ
+flagsOf kind = pick (eqb kind 4) 24 16
+
+-- the three bytes that every image begins with
+abbrev pub magic : List ℕ
+magic = 10 ∷ 1 ∷ 7 ∷ []
+
+-- bytes 0 to 7, the three doubles, the two counts
+unfoldable pub header : Sketch → List ℕ → List ℕ
+header s R =
+    magic ++ ((s .«lg_k» ∷ 0 ∷ flagsOf (s .kind) ∷ s .«cur_min» ∷ modeOf (s .kind) ∷ [])
+    ++ (packed 64 24 (0 ∷ toBits binary64 (kxq0 R) ∷ toBits binary64 (kxq1 R) ∷ [])
+    ++ packed 32 8 (s .«num_at_cur_min» ∷ s .«aux_count» ∷ [])))
+
+-- the image of registers and exception words
+unfoldable pub imageOf : ℕ → ℕ → List ℕ → List ℕ → List ℕ
+imageOf kind lgk R words = header (recordOf kind lgk R) R ++ (stored kind lgk R ++ packed 32 (4 * length words) words)
+
+-- ---- write
+-- the image of a sketch in good order: the exception words that are not empty, in table order
+unfoldable pub imageIn : Sketch → List ℕ → List ℕ → List ℕ
+imageIn s regs aux = imageOf (s .kind) (s .«lg_k») (registers s regs aux) (keeps 1 (tableIn s aux))
+
+-- the number, the length, and what the buffer then holds
+pub record Written : Type 0 where
+  pub no : ℕ
+  pub len : ℕ
+  pub out : List ℕ
+
+-- write: the sketch's checks, then OUT; bytes past the image stay
+unfoldable pub writeOf : Sketch → List ℕ → List ℕ → List ℕ → Written
+writeOf s regs aux buf =
+    let image = imageIn s regs aux in
+    let n = firstOf (checkNo true s regs aux ∷ pick (leb (length image) (length buf)) 0 16 ∷ []) in
+    pick (eqb n 0) (record { no = 0; len = length image; out = image ++ drop (length image) buf }) (record { no = n; len = 0; out = buf })
+
+-- ---- open: the fields of any list of bytes
+-- the kind of a mode, or 0
+unfoldable pub kindOf : ℕ → ℕ
+kindOf mode = pick (eqb mode 10) 8 (pick (eqb mode 6) 6 (pick (eqb mode 2) 4 0))
+
+-- the record that an image has: num_at_cur_min at 32, exception count at 36
+unfoldable pub sketchIn : List ℕ → Sketch
+sketchIn l = sketchOf (kindOf (getD l 7 0)) (getD l 3 0) (getD l 6 0) (slotAt 32 l 8) (slotAt 32 l 9)
+
+-- the register bytes, from byte 40 on
+unfoldable pub regsIn : List ℕ → List ℕ
+regsIn l = take (bytesOf (sketchIn l .kind) (sketchIn l .«lg_k»)) (drop 40 l)
+
+-- flag 8
+unfoldable pub compactIn : List ℕ → Bool
+compactIn l = eqb (getD l 5 0 / 8 % 2) 1
+
+-- how many exception words an image has: count of them in the compact form; else 2 ^ lg_arr, if count is not zero
+unfoldable pub wordCount : List ℕ → ℕ
+wordCount l = let count = sketchIn l .«aux_count» in pick (compactIn l) count (pick (eqb count 0) 0 (2 ^ getD l 4 0))
+
+-- the entries among them: the second form passes over the empty ones
+unfoldable pub entriesIn : List ℕ → List ℕ
+entriesIn l =
+    let words = unpacked 32 (wordCount l) (drop (40 + bytesOf (sketchIn l .kind) (sketchIn l .«lg_k»)) l) in
+    pick (compactIn l) words (keeps 1 words)
+
+-- an entry as the table has it: its slot modulo k
+abbrev pub taken : ℕ → ℕ → ℕ
+taken k w = word (home k w) (value w)
+
+-- no slot of k stands among those seen, or twice
+unfoldable pub noneTwice : ℕ → List ℕ → List ℕ → Bool
+noneTwice k seen [] = true
+noneTwice k seen (w ∷ ws) = both (eqb (countOf (home k w) seen) 0) (noneTwice k (home k w ∷ seen) ws)
+
+-- each entry is high enough (so it is not empty) and its nibble is 15; no slot twice; as many as the count says, and as many nibbles of 15: so the two sets are one
+unfoldable pub auxFits : List ℕ → Bool
+auxFits l =
+    let s = sketchIn l in
+    let nibbles = cells s (regsIn l) in
+    let es = entriesIn l in
+    let k = 2 ^ s .«lg_k» in
+    both (all (λ i. let w = getD es i 0 in both (leb (s .«cur_min» + 15) (value w)) (eqb (getD nibbles (home k w) 0) 15)) (length es))
+    (both (noneTwice k [] es)
+    (both (eqb (length es) (s .«aux_count»))
+    (eqb (countOf 15 nibbles) (s .«aux_count»))))
+
+-- opening's refusals in document 01's order: 7, 8, 9, 2, 3, 10, 11, 7, 6, 12, 13, 14, 15
+unfoldable pub openNo : List ℕ → List ℕ → List ℕ → List ℕ → ℕ
+openNo l regs aux scratch =
+    let s = sketchIn l in
+    let four = eqb (s .kind) 4 in
+    firstOf (
+    pick (leb 40 (length l)) 0 7
+    ∷ pick (both (eqb (getD l 0 0) 10) (both (eqb (getD l 1 0) 1) (eqb (getD l 2 0) 7))) 0 8
+    ∷ pick (eqb (s .kind) 0) 9 0
+    ∷ lgkNo (s .«lg_k»)
+    ∷ sizeNo (s .kind) (s .«lg_k») (length regs)
+    ∷ pick (scratchFits (s .kind) aux scratch) 0 3
+    ∷ pick (countsFit s) 0 10
+    ∷ pick (both four (both (eqb (getD l 5 0 / 8 % 2) 0) (both (leb 1 (s .«aux_count»)) (leb 23 (getD l 4 0))))) 11 0
+    ∷ pick (leb (40 + bytesOf (s .kind) (s .«lg_k») + pick four (4 * wordCount l) 0) (length l)) 0 7
+    ∷ pick (both four (leb (1 + length aux) (tableSize (baseFor (s .«lg_k»)) (s .«aux_count»)))) 6 0
+    ∷ pick (valuesFit s (regsIn l)) 0 12
+    ∷ pick (pick four (auxFits l) true) 0 13
+    ∷ pick (spareFits s (regsIn l)) 0 14
+    ∷ pick (tallyFits s (regsIn l)) 0 15
+    ∷ []
+    )
+
+-- open: the record and the register bytes of the image, and for kind 4 the table of its entries, inserted in the order listed
+unfoldable pub openOf : List ℕ → List ℕ → List ℕ → List ℕ → Out
+openOf l regs aux scratch =
+    let s = sketchIn l in
+    let n = openNo l regs aux scratch in
+    pick (eqb n 0)
+    (out 0 s 0 (regsIn l) (areaOf (s .kind) (made (baseFor (s .«lg_k»)) (map (taken (2 ^ s .«lg_k»)) (entriesIn l))) aux))
+    (out n nothing 0 regs aux)

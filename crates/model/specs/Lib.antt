@@ -1,0 +1,15 @@
+pub mod Answers
+pub mod Pick
+pub mod Coupon
+pub mod Registers
+pub mod Packed
+pub mod Table
+pub mod Steps
+pub mod Four
+pub mod Sketch
+pub mod Check
+pub mod Sums
+pub mod Calls
+pub mod Image
+pub mod History
+pub mod Claims

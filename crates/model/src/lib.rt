@@ -1,0 +1,57 @@
+// The code of the book: the record of a sketch and the answers of the table of refusals. All else here is specs/ and proofs/.
+ghost use mathlib.Core.Path.{_≡_};
+ghost use Rattle.model.specs.Answers.{numberOf};
+
+// Any values may stand here: a call refuses what is not in good order.
+pub struct Sketch {
+    pub kind: u8,
+    pub lg_k: u8,
+    pub cur_min: u8,
+    pub num_at_cur_min: u32,
+    pub aux_count: u32,
+}
+
+pub enum Answer {
+    Ok,
+    Kind,
+    LgK,
+    Size,
+    Damaged,
+    Finer,
+    NoRoom,
+    Short,
+    Header,
+    Mode,
+    Counts,
+    LgArr,
+    Value,
+    Aux,
+    Spare,
+    Tally,
+    Out,
+}
+
+// The answer's number in the table of refusals.
+pub fn number(a: Answer) -> u8
+    ensures { λ r. ⌜ r ≡ numberOf a ⌝ }
+{
+    match a {
+        Answer::Ok => 0,
+        Answer::Kind => 1,
+        Answer::LgK => 2,
+        Answer::Size => 3,
+        Answer::Damaged => 4,
+        Answer::Finer => 5,
+        Answer::NoRoom => 6,
+        Answer::Short => 7,
+        Answer::Header => 8,
+        Answer::Mode => 9,
+        Answer::Counts => 10,
+        Answer::LgArr => 11,
+        Answer::Value => 12,
+        Answer::Aux => 13,
+        Answer::Spare => 14,
+        Answer::Tally => 15,
+        Answer::Out => 16,
+    }
+}

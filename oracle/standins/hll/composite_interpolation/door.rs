@@ -1,0 +1,53 @@
+//! The door to `hll`: what its public face does not offer, done with its own functions.
+//!
+//! A child module sees its parent's private items, and an `impl` is known wherever its type
+//! is; so the methods below can be called from outside without a change to the Rust.
+
+use crate::Door;
+use crate::hll::array4::Array4;
+use crate::hll::array6::Array6;
+use crate::hll::array8::Array8;
+use crate::hll::mode::Mode;
+use crate::hll::{Coupon, HllSketch};
+
+impl Door {
+    pub fn coupon(word: u32) -> Coupon {
+        Coupon(word)
+    }
+
+    /// An empty register sketch; `HllSketch::new` would begin as a list of coupons.
+    pub fn start(kind: u8, lg_k: u8) -> HllSketch {
+        let mode = match kind {
+            4 => Mode::Array4(Array4::new(lg_k)),
+            6 => Mode::Array6(Array6::new(lg_k)),
+            _ => Mode::Array8(Array8::new(lg_k)),
+        };
+        HllSketch::from_mode(lg_k, mode)
+    }
+
+    /// Each register as the sketch itself reads it; none if it holds a list or a set.
+    pub fn registers(sketch: &HllSketch) -> Option<Vec<u8>> {
+        let slots = 0..1u32 << sketch.lg_config_k();
+        match sketch.mode() {
+            Mode::Array4(array) => Some(slots.map(|slot| array.get(slot)).collect()),
+            Mode::Array6(array) => Some(slots.map(|slot| array.get(slot)).collect()),
+            Mode::Array8(array) => Some(array.values().to_vec()),
+            Mode::List { .. } | Mode::Set { .. } => None,
+        }
+    }
+
+    /// Merges by the target's own two functions, chosen as `union.rs` chooses them.
+    pub fn merge(target: &mut HllSketch, source: &HllSketch) -> Result<(), &'static str> {
+        let (lg_k, source_lg_k) = (target.lg_config_k(), source.lg_config_k());
+        let registers = Self::registers(source).ok_or("the source holds no registers")?;
+        let Mode::Array8(array) = target.mode_mut() else {
+            return Err("the target is not of kind 8");
+        };
+        if source_lg_k == lg_k {
+            array.merge_array_same_lgk(&registers);
+        } else {
+            array.merge_array_with_downsample(&registers, source_lg_k);
+        }
+        Ok(())
+    }
+}
