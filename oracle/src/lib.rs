@@ -10,6 +10,7 @@ use hll::{HllSketch, HllType, HllUnion};
 // The crate's modules, at the root because they name one another from there.
 include!(concat!(env!("OUT_DIR"), "/modules.rs"));
 
+pub mod book;
 pub mod check;
 pub mod examples;
 pub mod model;

@@ -1,8 +1,9 @@
 //! The oracle's driver. Without words it answers requests from standard input, line by line;
-//! `examples N SEED` prints requests with their answers, `check N SEED` compares with the model.
+//! `examples N SEED` prints requests with their answers, `book N SEED` the same for the proof checker,
+//! `check N SEED` compares with the model.
 
 use oracle::request::Request;
-use oracle::{check, examples};
+use oracle::{book, check, examples};
 use std::io::{self, BufRead, Write};
 use std::process::ExitCode;
 
@@ -15,6 +16,7 @@ fn main() -> ExitCode {
         ("", _) => answer().expect("standard input or output failed"),
         ("examples", [n, seed]) => examples::examples(*n, *seed)
             .for_each(|request| println!("{request}\n{}", request.answer())),
+        ("book", [n, seed]) => print!("{}", book::book(*n, *seed)),
         ("check", [n, seed]) => match check::check(*n, *seed) {
             Ok(done) => println!("{done}"),
             Err(fault) => {
@@ -23,7 +25,7 @@ fn main() -> ExitCode {
             }
         },
         _ => {
-            eprintln!("usage: oracle [examples N SEED | check N SEED]");
+            eprintln!("usage: oracle [examples N SEED | book N SEED | check N SEED]");
             return ExitCode::from(2);
         }
     }

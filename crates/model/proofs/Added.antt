@@ -89,7 +89,7 @@ kept-size base t kept four = omega (arith, four, kept .sized, mul-le-mul-left ba
 pub kept-room : (base : ℕ) (t : List ℕ) → Kept base t → 4 ≤ base → Room t
 kept-room base t kept four = room-of t (kept .lg) (kept .power) (omega (arith, kept-size base t kept four, kept .load))
 
--- ---- a word added for a sl that the table has not
+-- ---- a word added for a slot that the table has not
 module _ (base : ℕ) (t : List ℕ) (w : ℕ) (kept : Kept base t) (four : 4 ≤ base) (few : suc (used t) < 2 ^ 26) (some : w ≡ 0 → ⊥) (absent : wordAt t (slot w) ≡ 0) where
   size4 : 4 ≤ length t
   size4 = kept-size base t kept four
@@ -162,7 +162,7 @@ module _ (base : ℕ) (t : List ℕ) (w : ℕ) (kept : Kept base t) (four : 4 �
       cases (λ u. Member u x → (x ≡ w) ⊎ Member t x) (λ h m. insert-inv t w room some absent x m)
       (λ h m. insert-inv t w room some absent x (grown-from (insert t w) (kept .lg) power′ good′ x hx m))
 
-  -- as a map from slots to words: w at its sl, and the others as they were
+  -- as a map from slots to words: w at its slot, and the others as they were
   pub add-same : wordAt (add t w) (slot w) ≡ w
   add-same = more-same t (add t w) w room add-room (kept .good) (add-kept .good) some add-to add-from
 

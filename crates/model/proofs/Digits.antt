@@ -30,6 +30,12 @@ getD-digits c zero n s h = absurd (not-suc-le-zero h)
 getD-digits c (suc k) n zero h = sym (ap (λ (x : ℕ). n / x % c) (pow-zero c) ∙ ap (λ (x : ℕ). x % c) (div-one n))
 getD-digits c (suc k) n (suc s) h = getD-digits c k (n / c) s (le-of-suc-le-suc h) ∙ ap (λ (x : ℕ). x % c) (sym (div-suc n c s))
 
+pub digit-lt : (c k n : ℕ) → 0 < c → (i : ℕ) → getD (digits c k n) i 0 < c
+unfolding digits
+digit-lt c zero n p i = p
+digit-lt c (suc k) n p zero = mod-lt n p
+digit-lt c (suc k) n p (suc i) = digit-lt c k (n / c) p i
+
 -- the number of the k lowest digits
 pub number-digits : (c k n : ℕ) → 0 < c → number c (digits c k n) ≡ n % c ^ k
 unfolding number digits

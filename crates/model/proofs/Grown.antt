@@ -1,24 +1,22 @@
 -- Growth keeps good order and the table as a map from slots to words. Assumes nothing.
 use mathlib.Core.Path.{_≡_, refl, sym, _∙_, ap, subst}
-use mathlib.Core.Bool.{Bool, true, false}
 use mathlib.Core.Logic.{_⊎_, inl, inr}
 use mathlib.Core.List.{List, [], _∷_}
-use Prim.Native.Nat.{ℕ, zero, suc, _+_, _^_, _≤_, _<_, zero-le, suc-le-suc}
-use native.Mathlib.Nat.{not-suc-le-zero, le-of-suc-le-suc, add-zero}
+use Prim.Native.Nat.{ℕ, zero, suc, _+_, _^_, _<_, zero-le, suc-le-suc}
+use native.Mathlib.Nat.{not-suc-le-zero}
 use native.Mathlib.Omega.{arith}
 use native.Mathlib.Decide.{ℕ-discrete}
-use lib.ListN.{length, getD, set, replicate, length-set, length-replicate, getD-replicate}
-use lib.Dec.{eqb}
+use lib.ListN.{length, getD, replicate, length-replicate, getD-replicate}
 use lib.Pow.{pow-pos}
 use borrow.Author.Tests.{eq-eqb, ne-eqb}
-use Rattle.model.specs.Pick.{pick}
 use Rattle.model.specs.Table.{Room, Reached, Member, place, wordAt, insert, refill, grown, used}
 use Rattle.model.specs.Coupon.{slot}
+use Rattle.model.proofs.Members.{member-head, member-tail, member-cases}
 use Rattle.model.proofs.Search.{place-lt}
 use Rattle.model.proofs.Refill.{put, put-empty, put-word, room-of, used-put, length-put, used-refill, used-set-empty, length-refill, used-zeros, double-size}
 use Rattle.model.proofs.Order.{insert-good, insert-new, insert-old, insert-inv, reads-none, no-slot-twice, same-words}
 
--- no sl stands twice in a list of words
+-- no slot stands twice in a list of words
 abbrev pub Distinct : List ℕ → Type 0
 Distinct ws = (i j : ℕ) → i < length ws → j < length ws → (getD ws i 0 ≡ 0 → ⊥) → (getD ws j 0 ≡ 0 → ⊥) → slot (getD ws i 0) ≡ slot (getD ws j 0) → i ≡ j
 
@@ -31,19 +29,6 @@ pub record Ready (t ws : List ℕ) : Type 0 where
   pub distinct : Distinct ws
   pub apart : (x y : ℕ) → (x ≡ 0 → ⊥) → (y ≡ 0 → ⊥) → Member t x → Member ws y → slot x ≡ slot y → ⊥
 
-tail : (w x : ℕ) (ws : List ℕ) → Member ws x → Member (w ∷ ws) x
-tail w x ws m = (suc (m .0), suc-le-suc (m .1), m .2)
-
-head : (w : ℕ) (ws : List ℕ) → Member (w ∷ ws) w
-head w ws = (zero, suc-le-suc zero-le, refl)
-
-member-cases : (w x : ℕ) (ws : List ℕ) → Member (w ∷ ws) x → (x ≡ w) ⊎ Member ws x
-member-cases w x ws m = go (m .0) (m .1) (m .2)
-  where
-    go : (p : ℕ) → p < suc (length ws) → getD (w ∷ ws) p 0 ≡ x → (x ≡ w) ⊎ Member ws x
-    go zero l e = inl (sym e)
-    go (suc p) l e = inr (p, le-of-suc-le-suc l, e)
-
 module _ (t ws : List ℕ) (w : ℕ) (ready : Ready t (w ∷ ws)) where
   room : Room t
   room = room-of t (ready .lg) (ready .size) (omega arith)
@@ -51,9 +36,9 @@ module _ (t ws : List ℕ) (w : ℕ) (ready : Ready t (w ∷ ws)) where
   rest-distinct : Distinct ws
   rest-distinct i j li lj hi hj e = omega (arith, ready .distinct (suc i) (suc j) (suc-le-suc li) (suc-le-suc lj) hi hj e)
 
-  -- the first word's sl is not in the table
+  -- the first word's slot is not in the table
   fresh : (w ≡ 0 → ⊥) → wordAt t (slot w) ≡ 0
-  fresh h = reads-none t (slot w) room (λ x hx q m. ready .apart x w hx h m (head w ws) q)
+  fresh h = reads-none t (slot w) room (λ x hx q m. ready .apart x w hx h m (member-head w ws) q)
 
   skipped : Ready t ws
   skipped = record {
@@ -62,7 +47,7 @@ module _ (t ws : List ℕ) (w : ℕ) (ready : Ready t (w ∷ ws)) where
     spare = omega arith;
     good = ready .good;
     distinct = rest-distinct;
-    apart = λ x y hx hy mx my. ready .apart x y hx hy mx (tail w y ws my);
+    apart = λ x y hx hy mx my. ready .apart x y hx hy mx (member-tail w y ws my);
   }
 
   inserted : (w ≡ 0 → ⊥) → Ready (insert t w) ws
@@ -76,7 +61,7 @@ module _ (t ws : List ℕ) (w : ℕ) (ready : Ready t (w ∷ ws)) where
   }
     where
       apart′ : (x y : ℕ) → (x ≡ 0 → ⊥) → (y ≡ 0 → ⊥) → (x ≡ w) ⊎ Member t x → Member ws y → slot x ≡ slot y → ⊥
-      apart′ x y hx hy (inr mx) my e = ready .apart x y hx hy mx (tail w y ws my) e
+      apart′ x y hx hy (inr mx) my e = ready .apart x y hx hy mx (member-tail w y ws my) e
       apart′ x y hx hy (inl i) my e =
           let twice : zero ≡ suc (my .0) =
           ready .distinct zero (suc (my .0)) (suc-le-suc zero-le) (suc-le-suc (my .1)) h (λ z. hy (sym (my .2) ∙ z)) (ap slot (sym i) ∙ e ∙ ap slot (sym (my .2))) in
@@ -106,7 +91,7 @@ module _ (t ws : List ℕ) (w : ℕ) (ready : Ready t (w ∷ ws)) where
       go (yes e) = inr (subst (λ (u : List ℕ). Member u x) (sym (put-empty t w e)) m)
       go (no h) = insert-inv t w room h (fresh h) x (subst (λ (u : List ℕ). Member u x) (sym (put-word t w h)) m)
 
--- insertion into a table that has not the sl uses one word more
+-- insertion into a table that has not the slot uses one word more
 pub used-insert : (t : List ℕ) (w : ℕ) → Room t → (w ≡ 0 → ⊥) → wordAt t (slot w) ≡ 0 → used (insert t w) ≡ suc (used t)
 unfolding insert wordAt
 used-insert t w r h e = used-set-empty t (place t (slot w)) w (place-lt t (slot w) r) e h
@@ -151,7 +136,7 @@ refill-from t (w ∷ ws) r x m = go (refill-from (put t w) ws (put-ready t ws w 
 
     go : Member (put t w) x ⊎ Member ws x → Member t x ⊎ Member (w ∷ ws) x
     go (inl k) = back (put-from t ws w r x k)
-    go (inr k) = inr (tail w x ws k)
+    go (inr k) = inr (member-tail w x ws k)
 
 -- ---- growth
 pub zeros-none : (n x : ℕ) → (x ≡ 0 → ⊥) → Member (replicate n 0) x → ⊥
@@ -203,6 +188,6 @@ module _ (t : List ℕ) (lg : ℕ) (size : length t ≡ 2 ^ lg) (good : Reached 
       from (inl k) = absurd (zeros-none (length t + length t) x h k)
       from (inr k) = k
 
-  -- and so yields for each sl what the table yields, where that has room
+  -- and so yields for each slot what the table yields, where that has room
   pub grown-words : Room t → (sl : ℕ) → wordAt (grown t) sl ≡ wordAt t sl
   grown-words room = same-words t (grown t) room grown-room good grown-good grown-to grown-from

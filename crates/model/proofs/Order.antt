@@ -1,4 +1,4 @@
--- Reached order of a table: what `insert` keeps of it, and what a table in good order yields for a sl. Assumes nothing.
+-- Good order of a table: what `insert` keeps of it, and what a table in good order yields for a slot. Assumes nothing.
 use mathlib.Core.Path.{_≡_, refl, sym, _∙_, ap, subst, fun-ext}
 use mathlib.Core.Bool.{Bool, true, false}
 use mathlib.Core.Logic.{_⊎_, inl, inr, _≢_}
@@ -16,7 +16,7 @@ use Rattle.model.specs.Coupon.{slot}
 use Rattle.model.proofs.FirstLaws.{first-is, first-holds, first-before, true-not-false}
 use Rattle.model.proofs.Search.{ends, stride-odd, size-pos, place-lt, place-stops, stops-empty, stops-slot, stops-cases}
 
--- the test of a sl's search after n steps, and its place, over the size
+-- the test of a slot's search after n steps, and its place, over the size
 abbrev test : ℕ → List ℕ → ℕ → ℕ → Bool
 test size t sl n = stops sl (getD t (walk size (stride size sl) (sl % size) n) 0)
 
@@ -59,7 +59,7 @@ pub length-insert : (t : List ℕ) (w : ℕ) → length (insert t w) ≡ length 
 unfolding insert
 length-insert t w = length-set t (place t (slot w)) w
 
--- ---- insertion of a sl that the table has not
+-- ---- insertion of a slot that the table has not
 module _ (t : List ℕ) (w : ℕ) (room : Room t) (some : w ≡ 0 → ⊥) (absent : wordAt t (slot w) ≡ 0) where
   at-place : getD (insert t w) (place t (slot w)) 0 ≡ w
   unfolding insert
@@ -108,9 +108,9 @@ module _ (t : List ℕ) (w : ℕ) (room : Room t) (some : w ≡ 0 → ⊥) (abse
       go (yes e) = inl (sym (m .2) ∙ ap (λ (k : ℕ). getD (insert t w) k 0) e ∙ at-place)
       go (no e) = inr (m .0, subst (λ (n : ℕ). m .0 < n) (length-insert t w) (m .1), sym (off-place (m .0) e) ∙ m .2)
 
--- ---- another word for a sl that the table has
+-- ---- another word for a slot that the table has
 module _ (t : List ℕ) (w : ℕ) (room : Room t) (some : w ≡ 0 → ⊥) (present : wordAt t (slot w) ≡ 0 → ⊥) where
-  -- the word that was there is of the same sl
+  -- the word that was there is of the same slot
   old-slot : slot (getD t (place t (slot w)) 0) ≡ slot w
   unfolding wordAt
   old-slot = stops-cases (slot w) _ (place-stops t (slot w) room) present
@@ -142,7 +142,7 @@ module _ (t : List ℕ) (w : ℕ) (room : Room t) (some : w ≡ 0 → ⊥) (pres
           let is : getD (insert t w) p 0 ≡ getD t p 0 = getD-set-other t (place t (slot w)) p w 0 e in
           replace-place _ ∙ ap (λ (x : ℕ). place t (slot x)) is ∙ good p (subst (λ (n : ℕ). p < n) (length-insert t w) l) (λ z. h (is ∙ z))
 
--- ---- what a table in good order yields: the word of the sl that stands in it, wherever, and 0 where there is none
+-- ---- what a table in good order yields: the word of the slot that stands in it, wherever, and 0 where there is none
 pub reads : (t : List ℕ) (x : ℕ) → Reached t → (x ≡ 0 → ⊥) → Member t x → wordAt t (slot x) ≡ x
 unfolding Reached wordAt
 reads t x good h m =
@@ -175,7 +175,7 @@ same-words t u rt ru gt gu to from sl = go (ℕ-discrete (wordAt t sl) 0)
     go (no h) = ap (wordAt u) (sym (word-slot t sl rt h)) ∙ reads u (wordAt t sl) gu h (to (wordAt t sl) h (word-member t sl rt))
     go (yes e) = reads-none u sl ru (λ x h q m. h (sym (reads t x gt h (from x h m)) ∙ ap (wordAt t) q ∙ e)) ∙ sym e
 
--- no sl stands twice
+-- no slot stands twice
 pub no-slot-twice : (t : List ℕ) → Reached t → (p q : ℕ) → p < length t → q < length t → (getD t p 0 ≡ 0 → ⊥) → (getD t q 0 ≡ 0 → ⊥)
     → slot (getD t p 0) ≡ slot (getD t q 0) → p ≡ q
 unfolding Reached

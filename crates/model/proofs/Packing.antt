@@ -14,7 +14,7 @@ use lib.Arith.{digits-lt, digits-div, digits-mod, mod-mul}
 use lib.Pow.{pow-pos, pow-add, pow-mono, shr-shr, shr-lt, field, mod-mod-pow, shl-lt}
 use Rattle.model.specs.Packed.{Bytes, number, digits, slotAt, unpacked, packed, Put}
 use Rattle.model.specs.Registers.{raise}
-use Rattle.model.proofs.Digits.{pow-mul, div-suc, length-digits, getD-digits, number-digits, digits-number, digit-number, number-set, Changed, digits-changed, above-changed, digits-inj, drop-digits, number-lt}
+use Rattle.model.proofs.Digits.{pow-mul, div-suc, length-digits, getD-digits, digit-lt, number-digits, digits-number, digit-number, number-set, Changed, digits-changed, above-changed, digits-inj, drop-digits, number-lt}
 
 -- the number of the a bytes from j on
 abbrev pub window : ℕ → List ℕ → ℕ → ℕ
@@ -179,6 +179,10 @@ unpacked-packed w n vs h l =
     ∙ digits-number (2 ^ w) vs h
 
 -- a byte is a register of 8 bits
+pub packed-bytes : (w n : ℕ) (vs : List ℕ) → Bytes (packed w n vs)
+unfolding packed
+packed-bytes w n vs = digit-lt 256 n (number (2 ^ w) vs) (lit< tt)
+
 pub unpacked-8 : (bs : List ℕ) → Bytes bs → unpacked 8 (length bs) bs ≡ bs
 unfolding unpacked
 unpacked-8 bs h = digits-number 256 bs h

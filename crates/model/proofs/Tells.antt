@@ -24,6 +24,10 @@ pub tells-true : {P : Type 0} (a : Bool) → Tells a P → P → a ≡ true
 tells-true true x p = refl
 tells-true false x p = absurd (x .1 refl p)
 
+-- a test tells that it passes
+pub tells-pass : (b : Bool) → Tells b (b ≡ true)
+tells-pass b = ((λ e. e), λ e p. true-not-false p e)
+
 pub tells-as : {P Q : Type 0} (a : Bool) → (P → Q) → (Q → P) → Tells a P → Tells a Q
 tells-as a f g x = ((λ e. f (x .0 e)), λ e q. x .1 e (g q))
 

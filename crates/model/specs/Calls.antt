@@ -25,6 +25,7 @@ pub record Out : Type 0 where
   pub regs : List ℕ
   pub aux : List ℕ
 
+-- one, by its parts
 abbrev pub out : ℕ → Sketch → ℕ → List ℕ → List ℕ → Out
 out n s k r a = record { no = n; sketch = s; count = k; regs = r; aux = a }
 
@@ -57,11 +58,12 @@ feedOf s regs aux scratch coupons =
     let r = ran (stepOf (s .kind) (s .«lg_k») (length aux)) (stateOf s regs aux) coupons in
     pick (eqb n 0) (keptOut (r .no) (s .kind) (s .«lg_k») (r .count) (r .state) aux) (out n s 0 regs aux)
 
--- unpack: k bytes, one a register. The number, and what the buffer then holds
+-- what unpack gives back: the number, and what the buffer then holds
 pub record Unpacked : Type 0 where
   pub no : ℕ
   pub out : List ℕ
 
+-- unpack: k bytes, one a register
 unfoldable pub unpackOf : Sketch → List ℕ → List ℕ → List ℕ → Unpacked
 unpackOf s regs aux buf =
     let n = checkNo (eqb (length buf) (2 ^ s .«lg_k»)) s regs aux in
@@ -86,12 +88,13 @@ mergeOf t tregs s sregs saux =
     let R = joined (2 ^ t .«lg_k») (registers t tregs []) (registers s sregs saux) in
     pick (eqb n 0) (keptOut 0 8 (t .«lg_k») 0 (state R []) []) (out n t 0 tregs [])
 
--- sums: the number, kxq0 and kxq1
+-- what sums gives back: the number, kxq0 and kxq1
 pub record Summed : Type 0 where
   pub no : ℕ
   pub low : Float
   pub high : Float
 
+-- sums: both, worked out from the registers; +0 where refused
 unfoldable pub sumsOf : Sketch → List ℕ → List ℕ → Summed
 sumsOf s regs aux =
     let n = checkNo true s regs aux in

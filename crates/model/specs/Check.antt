@@ -20,7 +20,9 @@ countsFit s =
 
 -- no register above 63: each cell, but a nibble of 15, is one above cur_min
 unfoldable pub valuesFit : Sketch → List ℕ → Bool
-valuesFit s regs = all (λ i. let n = getD (cells s regs) i 0 in pick (both (eqb (s .kind) 4) (eqb n 15)) true (leb (s .«cur_min» + n) 63)) (length (cells s regs))
+valuesFit s regs =
+    let ns = cells s regs in
+    all (λ i. let n = getD ns i 0 in pick (both (eqb (s .kind) 4) (eqb n 15)) true (leb (s .«cur_min» + n) 63)) (length ns)
 
 -- kind 6's last byte is zero
 unfoldable pub spareFits : Sketch → List ℕ → Bool

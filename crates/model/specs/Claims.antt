@@ -12,14 +12,15 @@ use Rattle.model.specs.Table.{baseFor, tableSize, Member}
 use Rattle.model.specs.Four.{NoRoom}
 use Rattle.model.specs.Sketch.{isKind, bytesOf, cells, registers, Good}
 use Rattle.model.specs.Calls.{Out, out, nothing, startOf, feedOf, unpackOf, viewOf, mergeOf, sumsOf}
-use Rattle.model.specs.Image.{imageIn, writeOf, sketchIn, regsIn, compactIn, wordCount, entriesIn, openOf}
+use Rattle.model.specs.Image.{imageIn, wrote, writeOf, sketchIn, regsIn, compactIn, wordCount, entriesIn, openOf}
 use Rattle.model.specs.History.{Place, here, Call, run}
 use Rattle.model.specs.declared.Sketch.{Sketch}
 
 -- ---- demand 1: every call answers by the table
--- the answer is n unless Q holds; then the next line decides
-abbrev pub Unless : ℕ → Type 0 → (ℕ → Type 0) → ℕ → Type 0
-Unless n Q next answer = ((Q → ⊥) × (answer ≡ n)) ⊎ (Q × next answer)
+-- a line of the table: the answer is n unless Q holds; then the next line decides
+pub data Unless (n : ℕ) (Q : Type 0) (next : ℕ → Type 0) (answer : ℕ) : Type 0 where
+  refused : (Q → ⊥) → answer ≡ n → Unless n Q next answer
+  passed : Q → next answer → Unless n Q next answer
 
 -- no line applies
 abbrev pub Ok : ℕ → Type 0
@@ -80,9 +81,9 @@ OpenLines l regs aux scratch =
     (Unless 3 (length regs ≡ bytesOf (s .kind) (s .«lg_k»))
     (Unless 3 (Scratch (s .kind) aux scratch)
     (Unless 10 ((s .«num_at_cur_min» ≤ k) × ((s .«aux_count» ≤ k) × ((s .«cur_min» ≤ 63) × ((s .kind ≡ 4 → ⊥) → (s .«cur_min» ≡ 0) × (s .«aux_count» ≡ 0)))))
-    (Unless 11 (s .kind ≡ 4 → (compactIn l ≡ true → ⊥) → (s .«aux_count» ≡ 0 → ⊥) → getD l 4 0 ≤ 22)
+    (Unless 11 ((compactIn l ≡ true → ⊥) → (s .«aux_count» ≡ 0 → ⊥) → getD l 4 0 ≤ 22)
     (Unless 7 (40 + bytesOf (s .kind) (s .«lg_k») + 4 * wordCount l ≤ length l)
-    (Unless 6 (s .kind ≡ 4 → tableSize (baseFor (s .«lg_k»)) (s .«aux_count») ≤ length aux)
+    (Unless 6 (tableSize (baseFor (s .«lg_k»)) (s .«aux_count») ≤ length aux)
     (Unless 12 ((i : ℕ) → i < k → ((s .kind ≡ 4) × (getD ns i 0 ≡ 15) → ⊥) → s .«cur_min» + getD ns i 0 ≤ 63)
     (Unless 13 (s .kind ≡ 4 → Entries s ns (entriesIn l))
     (Unless 14 (s .kind ≡ 6 → getD (regsIn l) (length (regsIn l) - 1) 0 ≡ 0)
@@ -108,7 +109,7 @@ pub record Unchanged : Type 0 where
   pub feed-same : (s : Sketch) (regs aux scratch cs : List ℕ) → let o = feedOf s regs aux scratch cs in (o .no ≡ 0 → ⊥) → (o .no ≡ 6 → ⊥) → o ≡ out (o .no) s 0 regs aux
   pub unpack-same : (s : Sketch) (regs aux buf : List ℕ) → (unpackOf s regs aux buf .no ≡ 0 → ⊥) → unpackOf s regs aux buf .out ≡ buf
   pub merge-same : (t : Sketch) (tregs : List ℕ) (s : Sketch) (sregs saux : List ℕ) → let o = mergeOf t tregs s sregs saux in (o .no ≡ 0 → ⊥) → o ≡ out (o .no) t 0 tregs []
-  pub write-same : (s : Sketch) (regs aux buf : List ℕ) → let o = writeOf s regs aux buf in (o .no ≡ 0 → ⊥) → (o .len ≡ 0) × (o .out ≡ buf)
+  pub write-same : (s : Sketch) (regs aux buf : List ℕ) → let o = writeOf s regs aux buf in (o .no ≡ 0 → ⊥) → o ≡ wrote (o .no) 0 buf
   pub open-same : (l regs aux scratch : List ℕ) → let o = openOf l regs aux scratch in (o .no ≡ 0 → ⊥) → o ≡ out (o .no) nothing 0 regs aux
 
 -- ---- demands 2 and 3: over any history
@@ -128,7 +129,7 @@ SameSet p q = (c : ℕ) → (List·Memᴰ c p → List·Memᴰ c q) × (List·Me
 
 -- an empty kind 8 sketch, made in any memory of the right size, and fed cs in one batch
 abbrev pub freshlyFed : ℕ → List ℕ → List ℕ → Out
-freshlyFed lgk mem cs = let o = startOf 8 lgk mem [] in feedOf (o .sketch) (o .regs) [] [] cs
+freshlyFed lgk mem cs = let o = startOf 8 lgk mem [] in feedOf (o .sketch) (o .regs) (o .aux) [] cs
 
 -- a sketch has the registers of a call's, and whatever it is written into, the same image byte for byte
 pub record SameAs (o : Out) (s : Sketch) (regs aux : List ℕ) : Type 0 where

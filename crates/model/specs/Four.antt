@@ -17,6 +17,7 @@ pub record State : Type 0 where
   pub regs : List ℕ
   pub table : List ℕ
 
+-- one, by its parts
 abbrev pub state : List ℕ → List ℕ → State
 state r t = record { regs = r; table = t }
 

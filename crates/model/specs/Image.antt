@@ -10,7 +10,7 @@ use Rattle.model.specs.Coupon.{value, home, word}
 use Rattle.model.specs.Registers.{countOf}
 use Rattle.model.specs.Packed.{slotAt, unpacked, packed}
 use Rattle.model.specs.Table.{baseFor, tableSize, keeps, made}
-use Rattle.model.specs.Sketch.{sketchOf, bytesOf, recordOf, stored, areaOf, cells, tableIn, registers}
+use Rattle.model.specs.Sketch.{sketchOf, isKind, bytesOf, recordOf, stored, areaOf, cells, tableIn, registers}
 use Rattle.model.specs.Check.{countsFit, valuesFit, spareFits, tallyFits, lgkNo, sizeNo, scratchFits, checkNo}
 use Rattle.model.specs.Sums.{kxq0, kxq1}
 use Rattle.model.specs.Calls.{Out, out, nothing}
@@ -51,12 +51,20 @@ pub record Written : Type 0 where
   pub len : ℕ
   pub out : List ℕ
 
--- write: the sketch's checks, then OUT; bytes past the image stay
+-- one, by its parts
+abbrev pub wrote : ℕ → ℕ → List ℕ → Written
+wrote n len l = record { no = n; len = len; out = l }
+
+-- the sketch's checks, then OUT
+unfoldable pub writeNo : Sketch → List ℕ → List ℕ → List ℕ → ℕ
+writeNo s regs aux buf = firstOf (checkNo true s regs aux ∷ pick (leb (length (imageIn s regs aux)) (length buf)) 0 16 ∷ [])
+
+-- write: the image over the buffer's front; bytes past it stay
 unfoldable pub writeOf : Sketch → List ℕ → List ℕ → List ℕ → Written
 writeOf s regs aux buf =
+    let n = writeNo s regs aux buf in
     let image = imageIn s regs aux in
-    let n = firstOf (checkNo true s regs aux ∷ pick (leb (length image) (length buf)) 0 16 ∷ []) in
-    pick (eqb n 0) (record { no = 0; len = length image; out = image ++ drop (length image) buf }) (record { no = n; len = 0; out = buf })
+    pick (eqb n 0) (wrote 0 (length image) (image ++ drop (length image) buf)) (wrote n 0 buf)
 
 -- ---- open: the fields of any list of bytes
 -- the kind of a mode, or 0
@@ -106,24 +114,24 @@ auxFits l =
     (both (eqb (length es) (s .«aux_count»))
     (eqb (countOf 15 nibbles) (s .«aux_count»))))
 
--- opening's refusals in document 01's order: 7, 8, 9, 2, 3, 10, 11, 7, 6, 12, 13, 14, 15
+-- opening's refusals in document 01's order: 7, 8, 9, 2, 3, 10, 11, 7, 6, 12, 13, 14, 15. (Kinds 6 and 8 have no words once 10 has passed.)
 unfoldable pub openNo : List ℕ → List ℕ → List ℕ → List ℕ → ℕ
 openNo l regs aux scratch =
     let s = sketchIn l in
-    let four = eqb (s .kind) 4 in
+    let count = s .«aux_count» in
     firstOf (
     pick (leb 40 (length l)) 0 7
     ∷ pick (both (eqb (getD l 0 0) 10) (both (eqb (getD l 1 0) 1) (eqb (getD l 2 0) 7))) 0 8
-    ∷ pick (eqb (s .kind) 0) 9 0
+    ∷ pick (isKind (s .kind)) 0 9
     ∷ lgkNo (s .«lg_k»)
     ∷ sizeNo (s .kind) (s .«lg_k») (length regs)
     ∷ pick (scratchFits (s .kind) aux scratch) 0 3
     ∷ pick (countsFit s) 0 10
-    ∷ pick (both four (both (eqb (getD l 5 0 / 8 % 2) 0) (both (leb 1 (s .«aux_count»)) (leb 23 (getD l 4 0))))) 11 0
-    ∷ pick (leb (40 + bytesOf (s .kind) (s .«lg_k») + pick four (4 * wordCount l) 0) (length l)) 0 7
-    ∷ pick (both four (leb (1 + length aux) (tableSize (baseFor (s .«lg_k»)) (s .«aux_count»)))) 6 0
+    ∷ pick (pick (compactIn l) true (pick (eqb count 0) true (leb (getD l 4 0) 22))) 0 11
+    ∷ pick (leb (40 + bytesOf (s .kind) (s .«lg_k») + 4 * wordCount l) (length l)) 0 7
+    ∷ pick (leb (tableSize (baseFor (s .«lg_k»)) count) (length aux)) 0 6
     ∷ pick (valuesFit s (regsIn l)) 0 12
-    ∷ pick (pick four (auxFits l) true) 0 13
+    ∷ pick (pick (eqb (s .kind) 4) (auxFits l) true) 0 13
     ∷ pick (spareFits s (regsIn l)) 0 14
     ∷ pick (tallyFits s (regsIn l)) 0 15
     ∷ []

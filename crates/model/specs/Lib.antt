@@ -13,3 +13,4 @@ pub mod Calls
 pub mod Image
 pub mod History
 pub mod Claims
+pub mod Specimens

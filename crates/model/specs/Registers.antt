@@ -28,7 +28,7 @@ joined k R source = poured k R 0 source
 -- the largest value among the coupons for register s of k, or zero
 unfoldable pub largest : ℕ → ℕ → List ℕ → ℕ
 largest k s [] = 0
-largest k s (c ∷ cs) = pick (eqb (home k c) s) (max (value c) (largest k s cs)) (largest k s cs)
+largest k s (c ∷ cs) = let r = largest k s cs in pick (eqb (home k c) s) (max (value c) r) r
 
 -- the least register (63 at most)
 unfoldable pub least : List ℕ → ℕ
@@ -38,9 +38,9 @@ least (v ∷ vs) = min v (least vs)
 -- how many are n
 unfoldable pub countOf : ℕ → List ℕ → ℕ
 countOf n [] = 0
-countOf n (v ∷ vs) = pick (eqb v n) (suc (countOf n vs)) (countOf n vs)
+countOf n (v ∷ vs) = let r = countOf n vs in pick (eqb v n) (suc r) r
 
 -- how many are at or above n
 unfoldable pub above : ℕ → List ℕ → ℕ
 above n [] = 0
-above n (v ∷ vs) = pick (leb n v) (suc (above n vs)) (above n vs)
+above n (v ∷ vs) = let r = above n vs in pick (leb n v) (suc r) r

@@ -12,6 +12,7 @@ use Rattle.model.specs.Table.{baseFor, tableSize, laid}
 use Rattle.model.specs.Four.{State, state, storedAt, registers4, TableAt}
 use Rattle.model.specs.declared.Sketch.{Sketch}
 
+-- a record, by its fields
 abbrev pub sketchOf : ℕ → ℕ → ℕ → ℕ → ℕ → Sketch
 sketchOf kind lgk low num count = record { kind = kind; «lg_k» = lgk; «cur_min» = low; «num_at_cur_min» = num; «aux_count» = count }
 

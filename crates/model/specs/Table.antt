@@ -57,7 +57,7 @@ wordAt t s = getD t (place t s) 0
 -- how many words are not empty
 unfoldable pub used : List ℕ → ℕ
 used [] = 0
-used (w ∷ ws) = pick (eqb w 0) (used ws) (suc (used ws))
+used (w ∷ ws) = let r = used ws in pick (eqb w 0) r (suc r)
 
 -- a word put where the search for its slot ends: a new word, or a replaced one
 unfoldable pub insert : List ℕ → ℕ → List ℕ
@@ -74,7 +74,7 @@ grown t = refill (replicate (length t + length t) 0) t
 
 -- a new word: inserted first; then the table grows, if more than three quarters are used
 unfoldable pub add : List ℕ → ℕ → List ℕ
-add t w = pick (leb (4 * used (insert t w)) (3 * length t)) (insert t w) (grown (insert t w))
+add t w = let i = insert t w in pick (leb (4 * used i) (3 * length t)) i (grown i)
 
 -- words added one after the other
 unfoldable pub adds : List ℕ → List ℕ → List ℕ
@@ -84,7 +84,7 @@ adds t (w ∷ ws) = adds (add t w) ws
 -- the words whose value is at least the limit, in their order
 unfoldable pub keeps : ℕ → List ℕ → List ℕ
 keeps limit [] = []
-keeps limit (w ∷ ws) = pick (leb limit (value w)) (w ∷ keeps limit ws) (keeps limit ws)
+keeps limit (w ∷ ws) = let r = keeps limit ws in pick (leb limit (value w)) (w ∷ r) r
 
 -- a table made of a list of words, from the base on, growing on the way; no words where there is none
 abbrev pub made : ℕ → List ℕ → List ℕ

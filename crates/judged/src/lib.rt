@@ -1,0 +1,1 @@
+// No code: what the Rust answers to small histories and images, computed out of the book by the proof checker.

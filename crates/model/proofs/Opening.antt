@@ -1,0 +1,81 @@
+-- What open accepts is in good order. Assumes nothing.
+use mathlib.Core.Path.{_≡_, refl, sym, _∙_, subst}
+use mathlib.Core.Bool.{Bool, true, false}
+use mathlib.Core.List.{List}
+use Prim.Native.Nat.{ℕ}
+use native.Mathlib.Omega.{arith}
+use lib.Dec.{eqb}
+use lib.ListN.{length, getD, drop, length-drop}
+use lib.Seq.{length-take-le}
+use borrow.Author.Tests.{eqb-true, eq-eqb}
+use Rattle.model.specs.Pick.{pick, Tells}
+use Rattle.model.specs.Packed.{Bytes}
+use Rattle.model.specs.Sketch.{isKind, bytesOf, areaOf, Shaped, Good}
+use Rattle.model.specs.Check.{goodOf}
+use Rattle.model.specs.Calls.{Out, out, nothing}
+use Rattle.model.specs.Image.{sketchIn, regsIn, entriesIn, openNo, openOf}
+use Rattle.model.specs.declared.Sketch.{Sketch}
+use Rattle.model.proofs.ByteLists.{bytes-drop, bytes-take}
+use Rattle.model.proofs.Tells.{tells-true}
+use Rattle.model.proofs.Sizes.{sized}
+use Rattle.model.proofs.Lawful.{lawful}
+use Rattle.model.proofs.Tests.{good-asks}
+use Rattle.model.proofs.Entries.{aux-tells}
+use Rattle.model.proofs.Taken.{madeOf, made-fits}
+use Rattle.model.proofs.Opens.{Opens, open-says}
+
+-- the area that an image makes
+unfoldable pub areaIn : List ℕ → List ℕ → List ℕ
+areaIn l aux = areaOf (sketchIn l .kind) (madeOf (sketchIn l) (entriesIn l)) aux
+
+module _ (l regs aux scratch : List ℕ) where
+  open-no : openOf l regs aux scratch .no ≡ openNo l regs aux scratch
+  unfolding openOf areaIn
+  open-no = go (eqb (openNo l regs aux scratch) 0) refl
+    where
+      go : (b : Bool) → eqb (openNo l regs aux scratch) 0 ≡ b
+          → pick b (out 0 (sketchIn l) 0 (regsIn l) (areaIn l aux)) (out (openNo l regs aux scratch) nothing 0 regs aux) .no ≡ openNo l regs aux scratch
+      go true e = sym (eqb-true _ _ e)
+      go false e = refl
+
+  pub opens-to : openNo l regs aux scratch ≡ 0 → openOf l regs aux scratch ≡ out 0 (sketchIn l) 0 (regsIn l) (areaIn l aux)
+  unfolding openOf areaIn
+  opens-to e = rw e
+
+regs-bytes : (l : List ℕ) → Bytes l → Bytes (regsIn l)
+unfolding regsIn
+regs-bytes l b = bytes-take (bytesOf (sketchIn l .kind) (sketchIn l .«lg_k»)) (drop 40 l) (bytes-drop 40 l b)
+
+open-shaped : (l regs aux scratch : List ℕ) → Opens l regs aux scratch → Shaped (sketchIn l .kind) (sketchIn l .«lg_k») (length (regsIn l))
+unfolding sketchIn regsIn
+open-shaped l regs aux scratch o =
+    record {
+      is-kind = o .known;
+      low = o .sized .0;
+      high = o .sized .1;
+      long = length-take-le _ (drop 40 l) (omega (arith, length-drop 40 l, o .payload));
+    }
+
+-- ---- what open accepts passes the tests of good order
+pub open-passes : (l regs aux scratch : List ℕ) → Opens l regs aux scratch → goodOf (sketchIn l) (regsIn l) (areaIn l aux) ≡ true
+unfolding areaIn areaOf
+open-passes l regs aux scratch o =
+    let s = sketchIn l in
+    tells-true _ (good-asks s (regsIn l) (areaIn l aux))
+    (record {
+      counts = o .counts;
+      values = o .values;
+      spare = o .spare;
+      tally = o .tally;
+      table = λ four. rw (eq-eqb (s .kind) 4 four)
+          (made-fits s (regsIn l) (entriesIn l) (aux-tells l .0 (o .entries four)) (sized (s .«lg_k») (o .sized .0) (o .sized .1)) (length aux) four (o .room));
+    })
+
+-- so it is in good order
+pub open-good : (l regs aux scratch : List ℕ) → Bytes l → openOf l regs aux scratch .no ≡ 0
+    → Good (openOf l regs aux scratch .sketch) (openOf l regs aux scratch .regs) (openOf l regs aux scratch .aux)
+open-good l regs aux scratch b e =
+    let n = sym (open-no l regs aux scratch) ∙ e in
+    let o = open-says l regs aux scratch .0 n in
+    subst (λ (r : Out). Good (r .sketch) (r .regs) (r .aux)) (sym (opens-to l regs aux scratch n))
+    (lawful (sketchIn l .kind) (o .known) .tells (sketchIn l) (regsIn l) (areaIn l aux) refl (open-shaped l regs aux scratch o) (regs-bytes l b) .0 (open-passes l regs aux scratch o))

@@ -1,0 +1,64 @@
+//! The examples as a file of the crate `judged`, whose claim the proof checker computes: what the
+//! Rust answers, beside what it was asked. Lists of numbers are written as one number in hex,
+//! lowest digit first, since the checker reads a long numeral faster than a long list.
+
+use crate::request::Request;
+use crate::{Answer, Recipe, State, examples};
+
+/// So few to a claim that the checker can compute one within its bound on steps.
+const CHUNK: usize = 80;
+
+pub fn book(n: u64, seed: u64) -> String {
+    let cases: Vec<String> = examples::examples(n, seed).filter_map(|request| case(&request)).collect();
+    let mut text = String::from(HEAD);
+    for (i, chunk) in cases.chunks(CHUNK).enumerate() {
+        text += &format!("\nunfoldable pub cases{i} : List Case\ncases{i} =\n    {}\n    ∷ []\n", chunk.join("\n    ∷ "));
+    }
+    text
+}
+
+const HEAD: &str = "\
+-- Made by `oracle book`: requests, and what the Rust answers to them. `oracle/test` makes it again and compares.
+use mathlib.Core.List.{List, [], _∷_}
+use Rattle.judged.specs.Judge.{Case, Source, history, merged, opened, refused, source, words, bytes}
+";
+
+fn case(request: &Request) -> Option<String> {
+    Some(match (request, request.answer()) {
+        (Request::Run(recipe @ Recipe::History { .. }), Answer::Ok(state)) => {
+            format!("history ({}) {}", source(recipe)?, image(&state))
+        }
+        (Request::Run(Recipe::Open { image: from, coupons }), answer) => match answer {
+            Answer::Ok(state) => format!("opened {} {} {}", bytes(from), words(coupons), image(&state)),
+            Answer::Error(_) => format!("refused {}", bytes(from)),
+            Answer::Panic(_) => return None,
+        },
+        (Request::Merge { target, sources }, Answer::Ok(state)) => {
+            let sources: Option<Vec<String>> = sources.iter().map(source).collect();
+            format!("merged ({}) ({} ∷ []) {}", source(target)?, sources?.join(" ∷ "), image(&state))
+        }
+        _ => return None,
+    })
+}
+
+fn source(recipe: &Recipe) -> Option<String> {
+    let Recipe::History { kind, lg_k, coupons } = recipe else { return None };
+    Some(format!("source {kind} {lg_k} {}", words(coupons)))
+}
+
+fn image(state: &State) -> String {
+    bytes(&state.image)
+}
+
+fn bytes(list: &[u8]) -> String {
+    numeral("bytes", list.len(), list.iter().rev().map(|b| format!("{b:02x}")).collect())
+}
+
+fn words(list: &[u32]) -> String {
+    numeral("words", list.len(), list.iter().rev().map(|w| format!("{w:08x}")).collect())
+}
+
+fn numeral(reader: &str, len: usize, digits: String) -> String {
+    let digits = digits.trim_start_matches('0');
+    format!("({reader} {len} 0x{})", if digits.is_empty() { "0" } else { digits })
+}
