@@ -19,14 +19,11 @@ use Rattle.model.specs.Image.{imageIn, Written, writeNo, writeOf}
 use Rattle.model.specs.Claims.{Unless, Ok, ShapeLines, SketchLines, Scratch, FeedLine, Demand1}
 use Rattle.model.specs.declared.Sketch.{Sketch}
 use Rattle.model.proofs.FirstLaws.{true-not-false}
-use Rattle.model.proofs.Tells.{tells-as, tells-both, tells-le, tells-eq, tells-if, tells-true}
+use Rattle.model.proofs.Tells.{tells-as, tells-both, tells-le, tells-eq, tells-if, tells-either, tells-true}
+use Rattle.model.proofs.Tests.{scratch-tells}
 use Rattle.model.proofs.Ladder.{first-append, first-one, unless}
 use Rattle.model.proofs.Lawful.{lawful}
 use Rattle.model.proofs.Kept.{ok-check, feed-has, feed-line}
-
-tells-either : {P Q : Type 0} (a b : Bool) → Tells a P → Tells b Q → Tells (pick a true b) (P ⊎ Q)
-tells-either true b x y = ((λ e. inl (x .0 refl)), λ e p. true-not-false refl e)
-tells-either false b x y = ((λ e. inr (y .0 e)), λ e p. ⊎-elim (x .1 refl) (y .1 e) p)
 
 tells-yes : Tells true (Unit {0})
 tells-yes = ((λ e. tt), λ e p. true-not-false refl e)
@@ -35,13 +32,9 @@ pub kind-tells : (kind : ℕ) → Tells (isKind kind) ((kind ≡ 4) ⊎ ((kind �
 unfolding isKind
 kind-tells kind = tells-either _ _ (tells-eq kind 4) (tells-either _ _ (tells-eq kind 6) (tells-eq kind 8))
 
-zero-is : firstOf [] ≡ 0
+pub zero-is : firstOf [] ≡ 0
 unfolding firstOf
 zero-is = refl
-
-scratch-tells : (kind : ℕ) (aux scratch : List ℕ) → Tells (scratchFits kind aux scratch) (Scratch kind aux scratch)
-unfolding scratchFits
-scratch-tells kind aux scratch = tells-if _ _ (tells-eq kind 4) (tells-le (length aux) (length scratch))
 
 -- a call's number is the first of its refusals and of what it answers when done
 call-no : {A : Type 0} (number : A → ℕ) (n : ℕ) (done back : A) → number back ≡ n → number (pick (eqb n 0) done back) ≡ firstOf (n ∷ number done ∷ [])
@@ -72,12 +65,12 @@ sketch-lines b t s regs aux by ns f =
     unless (goodOf s regs aux) 3 ns (lawful (s .kind) (h .is-kind) .tells s regs aux refl h by) (f l))))
 
 -- ---- each call
-start-lines : (kind lgk : ℕ) (regs aux : List ℕ) → ShapeLines kind lgk (length regs) Ok (startOf kind lgk regs aux .no)
+pub start-lines : (kind lgk : ℕ) (regs aux : List ℕ) → ShapeLines kind lgk (length regs) Ok (startOf kind lgk regs aux .no)
 unfolding startOf keptOut
 start-lines kind lgk regs aux =
     subst (ShapeLines kind lgk (length regs) Ok) (sym (call-no (λ (o : Out). o .no) (shapeNo kind lgk (length regs)) _ _ refl)) (shape-lines kind lgk (length regs) (0 ∷ []) (λ h. first-one 0))
 
-feed-lines : (s : Sketch) (regs aux scratch cs : List ℕ) → Bytes regs
+pub feed-lines : (s : Sketch) (regs aux scratch cs : List ℕ) → Bytes regs
     → SketchLines (Scratch (s .kind) aux scratch) s regs aux (FeedLine s regs aux cs (feedOf s regs aux scratch cs .count)) (feedOf s regs aux scratch cs .no)
 unfolding feedOf keptOut
 feed-lines s regs aux scratch cs by =
@@ -89,11 +82,11 @@ feed-lines s regs aux scratch cs by =
     let m = feed-has s regs aux scratch cs g (ok-check _ s regs aux (tells-true _ t l) g) in
     subst₂ (FeedLine s regs aux cs) (sym (m .1)) (sym (first-one (r .no))) (feed-line s regs aux scratch cs g)))
 
-unpack-lines : (s : Sketch) (regs aux buf : List ℕ) → Bytes regs → SketchLines (length buf ≡ 2 ^ s .«lg_k») s regs aux Ok (unpackOf s regs aux buf .no)
+pub unpack-lines : (s : Sketch) (regs aux buf : List ℕ) → Bytes regs → SketchLines (length buf ≡ 2 ^ s .«lg_k») s regs aux Ok (unpackOf s regs aux buf .no)
 unfolding unpackOf
 unpack-lines s regs aux buf by = subst (SketchLines _ s regs aux Ok) (first-one _) (sketch-lines _ (tells-eq (length buf) (2 ^ s .«lg_k»)) s regs aux by [] (λ l g. zero-is))
 
-merge-lines : (t : Sketch) (tregs : List ℕ) (s : Sketch) (sregs saux : List ℕ) → Bytes tregs → Bytes sregs
+pub merge-lines : (t : Sketch) (tregs : List ℕ) (s : Sketch) (sregs saux : List ℕ) → Bytes tregs → Bytes sregs
     → Unless 1 (t .kind ≡ 8) (SketchLines (Unit {0}) t tregs [] (SketchLines (Unit {0}) s sregs saux (Unless 5 (t .«lg_k» ≤ s .«lg_k») Ok))) (mergeOf t tregs s sregs saux .no)
 unfolding mergeOf mergeNo eightNo keptOut
 merge-lines t tregs s sregs saux bt bs =
@@ -106,11 +99,11 @@ merge-lines t tregs s sregs saux bt bs =
     sketch-lines true tells-yes s sregs saux bs _ (λ m h.
     unless _ 4 (0 ∷ []) (tells-le (t .«lg_k») (s .«lg_k»)) (λ q. first-one 0)))))
 
-sums-lines : (s : Sketch) (regs aux : List ℕ) → Bytes regs → SketchLines (Unit {0}) s regs aux Ok (sumsOf s regs aux .no)
+pub sums-lines : (s : Sketch) (regs aux : List ℕ) → Bytes regs → SketchLines (Unit {0}) s regs aux Ok (sumsOf s regs aux .no)
 unfolding sumsOf
 sums-lines s regs aux by = subst (SketchLines _ s regs aux Ok) (first-one _) (sketch-lines true tells-yes s regs aux by [] (λ l g. zero-is))
 
-write-lines : (s : Sketch) (regs aux buf : List ℕ) → Bytes regs
+pub write-lines : (s : Sketch) (regs aux buf : List ℕ) → Bytes regs
     → SketchLines (Unit {0}) s regs aux (Unless 16 (length (imageIn s regs aux) ≤ length buf) Ok) (writeOf s regs aux buf .no)
 unfolding writeOf writeNo
 write-lines s regs aux buf by =

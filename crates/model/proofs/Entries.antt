@@ -5,13 +5,14 @@ use Prim.Native.Nat.{ℕ, zero, suc, _+_, _^_, _≤_, _<_, zero-le, suc-le-suc}
 use native.Mathlib.Nat.{not-suc-le-zero, le-of-suc-le-suc}
 use native.Mathlib.Omega.{arith}
 use lib.ListN.{length, getD}
-use borrow.Author.Tests.{eq-eqb, ne-eqb}
+use borrow.Author.Tests.{ne-eqb}
 use Rattle.model.specs.Pick.{Tells}
 use Rattle.model.specs.Coupon.{value, home}
 use Rattle.model.specs.Registers.{countOf}
 use Rattle.model.specs.Sketch.{cells}
 use Rattle.model.specs.Image.{sketchIn, regsIn, entriesIn, noneTwice, auxFits}
 use Rattle.model.proofs.FirstLaws.{true-not-false}
+use Rattle.model.proofs.Lowest.{count-none}
 use Rattle.model.proofs.Tells.{tells-as, tells-both, tells-le, tells-eq, tells-all}
 
 -- ---- no slot twice
@@ -22,10 +23,6 @@ Fresh k seen es = (i : ℕ) → i < length es → countOf (home k (getD es i 0))
 -- no two entries have one slot of k
 abbrev pub Apart : ℕ → List ℕ → Type 0
 Apart k es = (i j : ℕ) → i < length es → j < length es → home k (getD es i 0) ≡ home k (getD es j 0) → i ≡ j
-
-count-here : (n v : ℕ) (vs : List ℕ) → v ≡ n → countOf n (v ∷ vs) ≡ 0 → ⊥
-unfolding countOf
-count-here n v vs e z = let q : suc (countOf n vs) ≡ 0 = rw (eq-eqb v n e) at z in omega arith
 
 count-other : (n v : ℕ) (vs : List ℕ) → (v ≡ n → ⊥) → countOf n (v ∷ vs) ≡ countOf n vs
 unfolding countOf
@@ -41,7 +38,7 @@ none-tells k seen (w ∷ ws) =
     to p = (fresh, apart)
       where
         new : (i : ℕ) → i < length ws → home k w ≡ home k (getD ws i 0) → ⊥
-        new i l e = count-here _ (home k w) seen e (p .1 .0 i l)
+        new i l e = count-none _ (home k w ∷ seen) (p .1 .0 i l) zero (suc-le-suc zero-le) e
 
         fresh : Fresh k seen (w ∷ ws)
         fresh zero l = p .0
@@ -60,13 +57,13 @@ none-tells k seen (w ∷ ws) =
         fresh i l = count-other _ (home k w) seen (λ e. let q : zero ≡ suc i = p .1 zero (suc i) (suc-le-suc zero-le) (suc-le-suc l) e in omega arith) ∙ p .0 (suc i) (suc-le-suc l)
 
 -- ---- what the test asks
-pub record Listed (k low count : ℕ) (nibbles es : List ℕ) : Type 0 where
+pub record AuxFits (k low count : ℕ) (nibbles es : List ℕ) : Type 0 where
   pub each : (i : ℕ) → i < length es → (low + 15 ≤ value (getD es i 0)) × (getD nibbles (home k (getD es i 0)) 0 ≡ 15)
   pub apart : Apart k es
   pub many : length es ≡ count
   pub marked : countOf 15 nibbles ≡ count
 
-pub aux-tells : (l : List ℕ) → Tells (auxFits l) (Listed (2 ^ sketchIn l .«lg_k») (sketchIn l .«cur_min») (sketchIn l .«aux_count») (cells (sketchIn l) (regsIn l)) (entriesIn l))
+pub aux-tells : (l : List ℕ) → Tells (auxFits l) (AuxFits (2 ^ sketchIn l .«lg_k») (sketchIn l .«cur_min») (sketchIn l .«aux_count») (cells (sketchIn l) (regsIn l)) (entriesIn l))
 unfolding auxFits countOf
 aux-tells l =
     let s = sketchIn l in

@@ -47,10 +47,13 @@ pub mod Demand3
 pub mod Opens
 pub mod Entries
 pub mod Taken
+pub mod SameSlots
 pub mod Opening
+pub mod OpenLines
 pub mod Fields
 pub mod Images
 pub mod Listing
 pub mod Writing
 pub mod WriteOpen
+pub mod Claims
 pub mod Specimens

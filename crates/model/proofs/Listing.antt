@@ -29,7 +29,7 @@ use Rattle.model.proofs.Reading.{length-registers, getD-registers}
 use Rattle.model.proofs.Keeps.{keeps-from, keeps-to, keeps-distinct}
 use Rattle.model.proofs.ByteLists.{at-all}
 use Rattle.model.proofs.Tests.{cells-long, WordFits, TableFits}
-use Rattle.model.proofs.Entries.{Listed}
+use Rattle.model.proofs.Entries.{AuxFits}
 use Rattle.model.proofs.Taken.{map-at, takens, taken-words, madeOf}
 
 -- where only the empty words are of value 0, all others are kept
@@ -72,7 +72,7 @@ module _ (s : Sketch) (regs aux : List ℕ) (f : TableFits s regs aux) where
   pub listing-small : (i : ℕ) → getD (listing s aux) i 0 < 2 ^ 32
   listing-small = at-all ws (lit< tt) (λ i l. fits-at i l .whole)
 
-  pub listing-listed : Listed (2 ^ s .«lg_k») (s .«cur_min») (s .«aux_count») (cells s regs) (listing s aux)
+  pub listing-listed : AuxFits (2 ^ s .«lg_k») (s .«cur_min») (s .«aux_count») (cells s regs) (listing s aux)
   listing-listed =
       record {
         each = λ i l. let w = fits-at i l in (w .high, rw (at-home i l) (w .token));

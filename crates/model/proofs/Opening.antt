@@ -14,6 +14,7 @@ use Rattle.model.specs.Sketch.{isKind, bytesOf, areaOf, Shaped, Good}
 use Rattle.model.specs.Check.{goodOf}
 use Rattle.model.specs.Calls.{Out, out, nothing}
 use Rattle.model.specs.Image.{sketchIn, regsIn, entriesIn, openNo, openOf}
+use Rattle.model.specs.Claims.{OpensGood}
 use Rattle.model.specs.declared.Sketch.{Sketch}
 use Rattle.model.proofs.ByteLists.{bytes-drop, bytes-take}
 use Rattle.model.proofs.Tells.{tells-true}
@@ -29,7 +30,7 @@ unfoldable pub areaIn : List ℕ → List ℕ → List ℕ
 areaIn l aux = areaOf (sketchIn l .kind) (madeOf (sketchIn l) (entriesIn l)) aux
 
 module _ (l regs aux scratch : List ℕ) where
-  open-no : openOf l regs aux scratch .no ≡ openNo l regs aux scratch
+  pub open-no : openOf l regs aux scratch .no ≡ openNo l regs aux scratch
   unfolding openOf areaIn
   open-no = go (eqb (openNo l regs aux scratch) 0) refl
     where
@@ -72,8 +73,7 @@ open-passes l regs aux scratch o =
     })
 
 -- so it is in good order
-pub open-good : (l regs aux scratch : List ℕ) → Bytes l → openOf l regs aux scratch .no ≡ 0
-    → Good (openOf l regs aux scratch .sketch) (openOf l regs aux scratch .regs) (openOf l regs aux scratch .aux)
+pub open-good : OpensGood
 open-good l regs aux scratch b e =
     let n = sym (open-no l regs aux scratch) ∙ e in
     let o = open-says l regs aux scratch .0 n in

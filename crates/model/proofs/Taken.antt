@@ -22,7 +22,7 @@ use Rattle.model.proofs.Lowest.{count-le}
 use Rattle.model.proofs.Shape.{shape-good}
 use Rattle.model.proofs.Made.{Makable, made-used, made-size, made-shape, made-from}
 use Rattle.model.proofs.Tests.{cells-long, WordFits, table-tells}
-use Rattle.model.proofs.Entries.{Listed}
+use Rattle.model.proofs.Entries.{AuxFits}
 
 -- ---- an entry as a word of the table
 pub map-at : (f : ℕ → ℕ) (l : List ℕ) (i : ℕ) → i < length l → getD (map f l) i 0 ≡ f (getD l i 0)
@@ -34,10 +34,10 @@ module _ (k w : ℕ) where
   home-small : home k w < 2 ^ 26
   home-small = lt-of-le-of-lt (mod-le (slot w) k) (omega arith)
 
-  taken-slot : slot (taken k w) ≡ home k w
+  pub taken-slot : slot (taken k w) ≡ home k w
   taken-slot = slot-of-word (home k w) (value w) home-small
 
-  taken-value : value (taken k w) ≡ value w
+  pub taken-value : value (taken k w) ≡ value w
   taken-value = value-of-word (home k w) (value w) home-small (omega arith)
 
   taken-small : taken k w < 2 ^ 32
@@ -47,7 +47,7 @@ module _ (k w : ℕ) where
 abbrev pub takens : Sketch → List ℕ → List ℕ
 takens s es = map (taken (2 ^ s .«lg_k»)) es
 
-module _ (s : Sketch) (regs es : List ℕ) (listed : Listed (2 ^ s .«lg_k») (s .«cur_min») (s .«aux_count») (cells s regs) es) {base : ℕ} (ok : Sized base (2 ^ s .«lg_k»)) where
+module _ (s : Sketch) (regs es : List ℕ) (listed : AuxFits (2 ^ s .«lg_k») (s .«cur_min») (s .«aux_count») (cells s regs) es) {base : ℕ} (ok : Sized base (2 ^ s .«lg_k»)) where
   -- each is an exception's
   taken-fits : (x : ℕ) → Member (takens s es) x → WordFits (s .«cur_min») (cells s regs) x
   taken-fits x m =
@@ -82,7 +82,7 @@ module _ (s : Sketch) (regs es : List ℕ) (listed : Listed (2 ^ s .«lg_k») (s
 abbrev pub madeOf : Sketch → List ℕ → List ℕ
 madeOf s es = made (baseFor (s .«lg_k»)) (takens s es)
 
-module _ (s : Sketch) (regs es : List ℕ) (listed : Listed (2 ^ s .«lg_k») (s .«cur_min») (s .«aux_count») (cells s regs) es) (ok : Sized (baseFor (s .«lg_k»)) (2 ^ s .«lg_k»)) where
+module _ (s : Sketch) (regs es : List ℕ) (listed : AuxFits (2 ^ s .«lg_k») (s .«cur_min») (s .«aux_count») (cells s regs) es) (ok : Sized (baseFor (s .«lg_k»)) (2 ^ s .«lg_k»)) where
   can : Makable (takens s es)
   can = taken-words s regs es listed ok
 

@@ -2,7 +2,7 @@
 -- Assumes nothing.
 use mathlib.Core.Path.{_≡_, refl, sym, _∙_, ap, subst}
 use mathlib.Core.Bool.{Bool, true, false}
-use mathlib.Core.List.{List, [], _∷_}
+use mathlib.Core.Logic.{_⊎_, inl, inr, ⊎-elim}
 use Prim.Native.Nat.{ℕ, zero, suc, _≤_, _<_}
 use native.Mathlib.Nat.{not-suc-le-zero, le-refl}
 use native.Mathlib.Omega.{arith}
@@ -43,6 +43,10 @@ tells-lt m n = (ltb-true m n, λ e h. let k = ltb-false m n e in omega arith)
 
 pub tells-eq : (m n : ℕ) → Tells (eqb m n) (m ≡ n)
 tells-eq m n = (eqb-true m n, eqb-false m n)
+
+pub tells-either : {P Q : Type 0} (a b : Bool) → Tells a P → Tells b Q → Tells (pick a true b) (P ⊎ Q)
+tells-either true b x y = ((λ e. inl (x .0 refl)), λ e p. true-not-false refl e)
+tells-either false b x y = ((λ e. inr (y .0 e)), λ e p. ⊎-elim (x .1 refl) (y .1 e) p)
 
 -- a test under a condition
 pub tells-if : {P Q : Type 0} (a b : Bool) → Tells a P → Tells b Q → Tells (pick a b true) (P → Q)

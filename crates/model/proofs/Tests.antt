@@ -11,7 +11,8 @@ use Rattle.model.specs.Coupon.{value, slot}
 use Rattle.model.specs.Registers.{countOf}
 use Rattle.model.specs.Table.{baseFor, tableSize, place, used}
 use Rattle.model.specs.Sketch.{cells, tableIn}
-use Rattle.model.specs.Check.{countsFit, valuesFit, spareFits, tallyFits, wordFits, tableFits, goodOf}
+use Rattle.model.specs.Check.{countsFit, valuesFit, spareFits, tallyFits, wordFits, tableFits, goodOf, scratchFits}
+use Rattle.model.specs.Claims.{Scratch}
 use Rattle.model.specs.declared.Sketch.{Sketch}
 use Rattle.model.proofs.Packing.{length-unpacked}
 use Rattle.model.proofs.Tells.{tells-pass, tells-as, tells-both, tells-le, tells-lt, tells-eq, tells-if, tells-unless, tells-all}
@@ -62,6 +63,10 @@ spare-tells s regs = tells-if _ _ (tells-eq (s .kind) 6) (tells-eq (getD regs (l
 pub tally-tells : (s : Sketch) (regs : List ℕ) → Tells (tallyFits s regs) ((s .«num_at_cur_min» ≡ countOf 0 (cells s regs)) × (s .kind ≡ 4 → 0 < s .«num_at_cur_min»))
 unfolding tallyFits
 tally-tells s regs = tells-both _ _ (tells-eq (s .«num_at_cur_min») (countOf 0 (cells s regs))) (tells-if _ _ (tells-eq (s .kind) 4) (tells-lt 0 (s .«num_at_cur_min»)))
+
+pub scratch-tells : (kind : ℕ) (aux scratch : List ℕ) → Tells (scratchFits kind aux scratch) (Scratch kind aux scratch)
+unfolding scratchFits
+scratch-tells kind aux scratch = tells-if _ _ (tells-eq kind 4) (tells-le (length aux) (length scratch))
 
 -- ---- kind 4's exception table
 -- at cur_min low, the word w is of a slot whose nibble is 15, and high enough

@@ -15,6 +15,7 @@ use Rattle.model.specs.Sketch.{isKind, bytesOf, areaOf, registers, Shape
 use Rattle.model.specs.Check.{scratchFits}
 use Rattle.model.specs.Calls.{Out, out}
 use Rattle.model.specs.Image.{header, imageIn, Written, writeOf, sketchIn, regsIn, compactIn, wordCount, entriesIn, openOf}
+use Rattle.model.specs.Claims.{Again, Reopens}
 use Rattle.model.specs.declared.Sketch.{Sketch}
 use Rattle.model.proofs.FirstLaws.{true-not-false}
 use Rattle.model.proofs.Tells.{tells-true}
@@ -23,6 +24,7 @@ use Rattle.model.proofs.Plain.{plain-cells}
 use Rattle.model.proofs.Tests.{Passes, TableFits, counts-tells, good-asks, table-tells}
 use Rattle.model.proofs.Entries.{aux-tells}
 use Rattle.model.proofs.Taken.{made-in}
+use Rattle.model.proofs.Tests.{scratch-tells}
 use Rattle.model.proofs.Opens.{Opens, open-says}
 use Rattle.model.proofs.Opening.{areaIn, opens-to}
 use Rattle.model.proofs.Fields.{FieldsFit}
@@ -38,13 +40,6 @@ no-words l e = rw e (go (compactIn l))
     go : (b : Bool) → _≡_ {A = ℕ} (pick b 0 0) 0
     go true = refl
     go false = refl
-
--- opened to the same record, the same register bytes and, whatever the area was, the same registers
-pub record Reopened (s : Sketch) (regs aux : List ℕ) (o : Out) : Type 0 where
-  pub opens : o .no ≡ 0
-  pub same-sketch : o .sketch ≡ s
-  pub same-regs : o .regs ≡ regs
-  pub same-registers : registers (o .sketch) (o .regs) (o .aux) ≡ registers s regs aux
 
 module _ (s : Sketch) (regs aux rest regs′ aux′ scratch′ : List ℕ) (g : Good s regs aux) (ok : Passes s regs aux)
     (long : length regs′ ≡ length regs) (scratch : scratchFits (s .kind) aux′ scratch′ ≡ true)
@@ -135,18 +130,16 @@ module _ (s : Sketch) (regs aux rest regs′ aux′ scratch′ : List ℕ) (g : 
       go (yes e) = four-back e
       go (no e) = plain-cells s regs (areaIn l aux′) e ∙ sym (plain-cells s regs aux e)
 
-  reopened : Reopened s regs aux (openOf l regs′ aux′ scratch′)
+  reopened : Again s regs aux (openOf l regs′ aux′ scratch′)
   reopened =
-      subst (Reopened s regs aux) (sym (opens-to l regs′ aux′ scratch′ (open-says l regs′ aux′ scratch′ .1 opens)))
+      subst (Again s regs aux) (sym (opens-to l regs′ aux′ scratch′ (open-says l regs′ aux′ scratch′ .1 opens)))
       (record { opens = refl; same-sketch = same-record; same-regs = same-bytes; same-registers = rw (same-record, same-bytes) registers-back })
 
-pub write-open : (s : Sketch) (regs aux buf regs′ aux′ scratch′ : List ℕ) → Good s regs aux → writeOf s regs aux buf .no ≡ 0
-    → length regs′ ≡ length regs → scratchFits (s .kind) aux′ scratch′ ≡ true → (s .kind ≡ 4 → tableSize (baseFor (s .«lg_k»)) (s .«aux_count») ≤ length aux′)
-    → Reopened s regs aux (openOf (writeOf s regs aux buf .out) regs′ aux′ scratch′)
+pub write-open : Reopens
 write-open s regs aux buf regs′ aux′ scratch′ g e long scratch room =
     let n = sym (write-no s regs aux buf) ∙ e in
     let ok = good-asks s regs aux .0 (write-says s regs aux buf .0 n .0 .1) in
     let rest = drop (length (imageIn s regs aux)) buf in
     let parts : writeOf s regs aux buf .out ≡ imageOver s (registers s regs aux) regs (listing s aux) rest =
     ap (λ (w : Written). w .out) (writes s regs aux buf n) ∙ ap (λ (l : List ℕ). l ++ rest) (image-parts s regs aux g) ∙ simp append-assoc in
-    rw parts (reopened s regs aux rest regs′ aux′ scratch′ g ok long scratch room)
+    rw parts (reopened s regs aux rest regs′ aux′ scratch′ g ok long (tells-true _ (scratch-tells (s .kind) aux′ scratch′) scratch) room)

@@ -14,6 +14,8 @@ use Rattle.model.specs.Sketch.{isKind, bytesOf, cells, registers, Good}
 use Rattle.model.specs.Calls.{Out, out, nothing, startOf, feedOf, unpackOf, viewOf, mergeOf, sumsOf}
 use Rattle.model.specs.Image.{imageIn, wrote, writeOf, sketchIn, regsIn, compactIn, wordCount, entriesIn, openOf}
 use Rattle.model.specs.History.{Place, here, Call, run}
+use Rattle.model.specs.Answers.{numberOf}
+use Rattle.model.specs.declared.Answer.{Answer}
 use Rattle.model.specs.declared.Sketch.{Sketch}
 
 -- ---- demand 1: every call answers by the table
@@ -111,6 +113,28 @@ pub record Unchanged : Type 0 where
   pub merge-same : (t : Sketch) (tregs : List ℕ) (s : Sketch) (sregs saux : List ℕ) → let o = mergeOf t tregs s sregs saux in (o .no ≡ 0 → ⊥) → o ≡ out (o .no) t 0 tregs []
   pub write-same : (s : Sketch) (regs aux buf : List ℕ) → let o = writeOf s regs aux buf in (o .no ≡ 0 → ⊥) → o ≡ wrote (o .no) 0 buf
   pub open-same : (l regs aux scratch : List ℕ) → let o = openOf l regs aux scratch in (o .no ≡ 0 → ⊥) → o ≡ out (o .no) nothing 0 regs aux
+
+-- two results that meet one call's equation coincide, the answer by name
+abbrev pub Coincide : Type 0
+Coincide = (o : Out) (a b : Answer) (s t : Sketch) (c d : ℕ) (r q x y : List ℕ) → out (numberOf a) s c r x ≡ o → out (numberOf b) t d q y ≡ o → (a ≡ b) × ((s ≡ t) × ((c ≡ d) × ((r ≡ q) × (x ≡ y))))
+
+-- ---- images
+-- what opens is in good order
+abbrev pub OpensGood : Type 0
+OpensGood = (l regs aux scratch : List ℕ) → Bytes l → let o = openOf l regs aux scratch in o .no ≡ 0 → Good (o .sketch) (o .regs) (o .aux)
+
+-- a call's sketch is the sketch s again, though its exception area may be in another order
+pub record Again (s : Sketch) (regs aux : List ℕ) (o : Out) : Type 0 where
+  pub opens : o .no ≡ 0
+  pub same-sketch : o .sketch ≡ s
+  pub same-regs : o .regs ≡ regs
+  pub same-registers : registers (o .sketch) (o .regs) (o .aux) ≡ registers s regs aux
+
+-- what was written opens, into memory of the right size with room for its exceptions, to the same sketch
+abbrev pub Reopens : Type 0
+Reopens = (s : Sketch) (regs aux buf regs′ aux′ scratch′ : List ℕ) → Good s regs aux → writeOf s regs aux buf .no ≡ 0
+    → length regs′ ≡ length regs → Scratch (s .kind) aux′ scratch′ → (s .kind ≡ 4 → tableSize (baseFor (s .«lg_k»)) (s .«aux_count») ≤ length aux′)
+    → Again s regs aux (openOf (writeOf s regs aux buf .out) regs′ aux′ scratch′)
 
 -- ---- demands 2 and 3: over any history
 -- x is the largest value among the coupons of got for slot i of k, or zero where there is none
