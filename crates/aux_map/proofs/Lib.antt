@@ -1,0 +1,4 @@
+pub mod Bases
+pub mod Answers
+pub mod Growing
+pub mod Inserting
