@@ -8,13 +8,13 @@ use Prim.Native.Nat.{ℕ, zero, suc, _+_, _*_, _-_, _^_, _≤_, _<_}
 use native.Mathlib.Omega.{arith}
 use lib.Dec.{eqb, leb, ltb}
 use lib.ListN.{length, getD}
-use borrow.Author.Tests.{eqb-true, eqb-false}
+use borrow.Author.Tests.{ne-eqb}
 use Rattle.model.specs.Pick.{pick, both, all, firstOf, Tells}
 use Rattle.model.specs.Packed.{Bytes}
 use Rattle.model.specs.Steps.{ran}
 use Rattle.model.specs.Sketch.{isKind, bytesOf, Shaped, Good}
 use Rattle.model.specs.Check.{goodOf, lgkNo, sizeNo, shapeNo, scratchFits, checkNo}
-use Rattle.model.specs.Calls.{Out, startOf, keptOut, stateOf, stepOf, feedOf, unpackOf, eightNo, mergeNo, mergeOf, sumsOf}
+use Rattle.model.specs.Calls.{Out, startOf, keptOut, stateOf, stepOf, feedOf, unpackOf, eightNo, viewOf, mergeNo, mergeOf, sumsOf}
 use Rattle.model.specs.Image.{imageIn, Written, writeNo, writeOf}
 use Rattle.model.specs.Claims.{Unless, Ok, ShapeLines, SketchLines, Scratch, FeedLine, Demand1}
 use Rattle.model.specs.declared.Sketch.{Sketch}
@@ -23,7 +23,7 @@ use Rattle.model.proofs.Tells.{tells-as, tells-both, tells-le, tells-eq
 use Rattle.model.proofs.Tests.{scratch-tells}
 use Rattle.model.proofs.Ladder.{first-append, first-one, unless}
 use Rattle.model.proofs.Lawful.{lawful}
-use Rattle.model.proofs.Kept.{ok-check, feed-has, feed-line}
+use Rattle.model.proofs.Kept.{check-ok, ok-check, feed-has, feed-line, eight-says}
 
 tells-yes : Tells true (Unit {0})
 tells-yes = ((λ e. tt), λ e p. true-not-false refl e)
@@ -110,3 +110,11 @@ write-lines s regs aux buf by =
     subst (SketchLines _ s regs aux _)
     (sym (call-no (λ (o : Written). o .no) (writeNo s regs aux buf) _ _ refl ∙ first-append (checkNo true s regs aux ∷ pick (leb (length (imageIn s regs aux)) (length buf)) 0 16 ∷ []) (0 ∷ [])))
     (sketch-lines true tells-yes s regs aux by _ (λ l g. unless _ 15 (0 ∷ []) (tells-le (length (imageIn s regs aux)) (length buf)) (λ q. first-one 0)))
+
+pub view-shows : (s : Sketch) (regs : List ℕ) → s .kind ≡ 8 → Good s regs [] → viewOf s regs ≡ regs
+unfolding viewOf
+view-shows s regs e g = rw (eight-says s regs .1 (e, ok-check true s regs [] refl g))
+
+pub view-hides : (s : Sketch) (regs : List ℕ) → Bytes regs → ((s .kind ≡ 8) × Good s regs [] → ⊥) → viewOf s regs ≡ []
+unfolding viewOf
+view-hides s regs by h = rw (ne-eqb (eightNo s regs) 0 (λ e. let p = eight-says s regs .0 e in h (p .0, check-ok true s regs [] by (p .1))))

@@ -124,13 +124,15 @@ unfolding stateOf
 registers-long s regs aux g = lawful (s .kind) (g .shaped .is-kind) .sound s regs aux refl g .long
 
 -- ---- merge: the larger of each register
+pub eight-says : (t : Sketch) (tregs : List ℕ) → Says (eightNo t tregs) ((t .kind ≡ 8) × (checkNo true t tregs [] ≡ 0))
+unfolding eightNo
+eight-says t tregs = says-as _ (says-next _ _ (says-pass _ 0 (tells-eq (t .kind) 8)) (says-next _ _ (says-self (checkNo true t tregs [])) says-last)) (λ p. search) (λ p. search)
+
 pub merge-says : (t : Sketch) (tregs : List ℕ) (s : Sketch) (sregs saux : List ℕ)
     → Says (mergeNo t tregs s sregs saux) (((t .kind ≡ 8) × (checkNo true t tregs [] ≡ 0)) × ((checkNo true s sregs saux ≡ 0) × (t .«lg_k» ≤ s .«lg_k»)))
-unfolding mergeNo eightNo
+unfolding mergeNo
 merge-says t tregs s sregs saux =
-    says-as _
-    (says-next _ _ (says-next _ _ (says-pass _ 0 (tells-eq (t .kind) 8)) (says-next _ _ (says-self (checkNo true t tregs [])) says-last))
-    (says-next _ _ (says-self (checkNo true s sregs saux)) (says-next _ _ (says-pass _ 4 (tells-le (t .«lg_k») (s .«lg_k»))) says-last)))
+    says-as _ (says-next _ _ (eight-says t tregs) (says-next _ _ (says-self (checkNo true s sregs saux)) (says-next _ _ (says-pass _ 4 (tells-le (t .«lg_k») (s .«lg_k»))) says-last)))
     (λ p. search) (λ p. search)
 
 -- the registers of a kind 8 sketch do not depend on the area

@@ -1,19 +1,19 @@
--- What is claimed of all this: the three demands. Proved in proofs/Demand1.antt and proofs/Demands.antt.
+-- What is claimed of all this: the three demands, and what an image is worth. proofs/Claims.antt has the proofs.
 use mathlib.Core.Path.{_≡_}
 use mathlib.Core.Logic.{_⊎_}
-use mathlib.Core.Bool.{Bool, true}
-use mathlib.Core.List.{List, [], _∷_, map, List·Memᴰ}
-use Prim.Native.Nat.{ℕ, _+_, _*_, _/_, _%_, _-_, _^_, _<_, _≤_}
-use lib.ListN.{length, getD, take, replicate}
+use mathlib.Core.Bool.{true}
+use mathlib.Core.List.{List, [], List·Memᴰ}
+use Prim.Native.Nat.{ℕ, _+_, _*_, _-_, _^_, _<_, _≤_}
+use lib.ListN.{length, getD, take}
 use Rattle.model.specs.Coupon.{value, slot, home}
 use Rattle.model.specs.Registers.{fed, countOf}
 use Rattle.model.specs.Packed.{Bytes}
 use Rattle.model.specs.Table.{baseFor, tableSize, Member}
 use Rattle.model.specs.Four.{NoRoom}
-use Rattle.model.specs.Sketch.{isKind, bytesOf, cells, registers, Good}
+use Rattle.model.specs.Sketch.{bytesOf, cells, registers, Good}
 use Rattle.model.specs.Calls.{Out, out, nothing, startOf, feedOf, unpackOf, viewOf, mergeOf, sumsOf}
 use Rattle.model.specs.Image.{imageIn, wrote, writeOf, sketchIn, regsIn, compactIn, wordCount, entriesIn, openOf}
-use Rattle.model.specs.History.{Place, here, Call, run}
+use Rattle.model.specs.History.{here, Call, run}
 use Rattle.model.specs.Answers.{numberOf}
 use Rattle.model.specs.declared.Answer.{Answer}
 use Rattle.model.specs.declared.Sketch.{Sketch}
@@ -98,6 +98,8 @@ pub record Demand1 : Type 0 where
   pub feed-lines : (s : Sketch) (regs aux scratch cs : List ℕ) → Bytes regs
       → SketchLines (Scratch (s .kind) aux scratch) s regs aux (FeedLine s regs aux cs (feedOf s regs aux scratch cs .count)) (feedOf s regs aux scratch cs .no)
   pub unpack-lines : (s : Sketch) (regs aux buf : List ℕ) → Bytes regs → SketchLines (length buf ≡ 2 ^ s .«lg_k») s regs aux Ok (unpackOf s regs aux buf .no)
+  pub view-shows : (s : Sketch) (regs : List ℕ) → s .kind ≡ 8 → Good s regs [] → viewOf s regs ≡ regs
+  pub view-hides : (s : Sketch) (regs : List ℕ) → Bytes regs → ((s .kind ≡ 8) × Good s regs [] → ⊥) → viewOf s regs ≡ []
   pub merge-lines : (t : Sketch) (tregs : List ℕ) (s : Sketch) (sregs saux : List ℕ) → Bytes tregs → Bytes sregs
       → Unless 1 (t .kind ≡ 8) (SketchLines (Unit {0}) t tregs [] (SketchLines (Unit {0}) s sregs saux (Unless 5 (t .«lg_k» ≤ s .«lg_k») Ok))) (mergeOf t tregs s sregs saux .no)
   pub sums-lines : (s : Sketch) (regs aux : List ℕ) → Bytes regs → SketchLines (Unit {0}) s regs aux Ok (sumsOf s regs aux .no)

@@ -1,0 +1,4 @@
+pub mod Tallies
+pub mod Weights
+pub mod Dyadic
+pub mod Octets
