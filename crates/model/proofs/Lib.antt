@@ -38,6 +38,7 @@ pub mod Checked
 pub mod FourTells
 pub mod FourLawful
 pub mod Lawful
+pub mod Starting
 pub mod Kept
 pub mod Refused
 pub mod Largest
