@@ -1,0 +1,3 @@
+pub mod Cells
+pub mod Coupons
+pub mod Six

@@ -1,0 +1,5 @@
+pub mod Masks
+pub mod Turns
+pub mod Coupons
+pub mod Plain
+pub mod Eight

@@ -1,0 +1,163 @@
+// Kind 8, after array8.rs: a byte a register, in the bytes that the caller lends. Nothing here judges what it is lent but is_good: the
+// others ask for registers that fit, and the public calls have looked.
+use model::Sketch;
+ghost use mathlib.Core.Path.{_≡_};
+ghost use mathlib.Core.List.{[], _∷_};
+ghost use Prim.Native.Nat.{max, _%_, _^_, _≤_, _<_};
+ghost use lib.Dec.{eqb};
+ghost use lib.ListN.{length, getD};
+ghost use Rattle.model.specs.Pick.{pick};
+ghost use Rattle.model.specs.Registers as book;
+ghost use Rattle.model.specs.Registers.{joined, countOf};
+ghost use Rattle.model.specs.Check.{goodOf};
+ghost use Rattle.array8.specs.Asked.{Power, Finer, Lent, Ready};
+ghost use Rattle.array8.specs.Given.{Fed, Tallied};
+
+pub mod coupon;
+
+pub fn get(regs: &[u8], slot: u32) -> u8
+    requires { ⌜ slot < length (now regs) ⌝ }
+    ensures { λ r. ⌜ r ≡ getD (now (regs .entry)) slot 0 ⌝ }
+{
+    regs[slot as usize]
+}
+
+// The number of zeros comes in and goes out: it is kept in the record, and counted only where a whole buffer changes.
+pub fn update(lg_k: u8, num_zeros: u32, regs: &mut [u8], coupon: u32) -> u32
+    requires { ⌜ Ready «lg_k» «num_zeros» (now regs) ⌝ }
+    ensures { λ r. ⌜ Fed «lg_k» (now (regs .entry)) (coupon ∷ []) (now (regs .exit)) r ⌝ }
+{
+    let slot = coupon::home(lg_k, coupon);
+    let new_value = coupon::value(coupon);
+    let old_value = get(regs, slot);
+    if new_value <= old_value {
+        return num_zeros;
+    }
+    regs[slot as usize] = new_value;
+    if old_value == 0 {
+        return num_zeros - 1;
+    }
+    num_zeros
+}
+
+pub fn feed(lg_k: u8, num_zeros: u32, regs: &mut [u8], coupons: &[u32]) -> u32
+    requires { ⌜ Ready «lg_k» «num_zeros» (now regs) ⌝ }
+    ensures { λ r. ⌜ Fed «lg_k» (now (regs .entry)) (now (coupons .entry)) (now (regs .exit)) r ⌝ }
+{
+    let mut zeros = num_zeros;
+    let first = 0;
+    let mut i = first;
+    while i < coupons.len() {
+        zeros = update(lg_k, zeros, regs, coupons[i]);
+        i += 1;
+    }
+    zeros
+}
+
+// The lent registers themselves, and no copy: the reference handed in.
+pub fn values(regs: &[u8]) -> &[u8]
+    ensures { λ r. ⌜ r ≡ regs .entry ⌝ }
+{
+    regs
+}
+
+pub fn num_registers(lg_k: u8) -> usize
+    requires { ⌜ «lg_k» ≤ 21 ⌝ }
+    ensures { λ r. ⌜ r ≡ 2 ^ «lg_k» ⌝ }
+{
+    1usize << lg_k
+}
+
+// The compiler makes one instruction of it, so that a loop over it becomes vector code.
+fn larger(a: u8, b: u8) -> u8
+    ensures { λ r. ⌜ r ≡ max a b ⌝ }
+{
+    if a < b { b } else { a }
+}
+
+// A register of any source, whose slot may be past the target's last.
+pub fn raise(target: &mut [u8], slot: usize, value: u8)
+    requires { ⌜ Power (length (now target)) ⌝ }
+    ensures { λ _. ⌜ now (target .exit) ≡ book.raise (now (target .entry)) (slot % length (now (target .entry))) value ⌝ }
+{
+    let dst_slot = slot & (target.len() - 1);
+    target[dst_slot] = larger(target[dst_slot], value);
+}
+
+pub fn merge_array_same_lgk(target: &mut [u8], src: &[u8])
+    requires { ⌜ length (now target) ≡ length (now src) ⌝ }
+    ensures { λ _. ⌜ now (target .exit) ≡ joined (length (now (target .entry))) (now (target .entry)) (now (src .entry)) ⌝ }
+{
+    let mut slot = 0;
+    while slot < src.len() {
+        target[slot] = larger(target[slot], src[slot]);
+        slot += 1;
+    }
+}
+
+pub fn merge_array_with_downsample(target: &mut [u8], src: &[u8])
+    requires { ⌜ Finer (length (now target)) (length (now src)) ⌝ }
+    ensures { λ _. ⌜ now (target .exit) ≡ joined (length (now (target .entry))) (now (target .entry)) (now (src .entry)) ⌝ }
+{
+    let dst_mask = target.len() - 1;
+    let mut src_slot = 0;
+    while src_slot < src.len() {
+        let dst_slot = src_slot & dst_mask;
+        target[dst_slot] = larger(target[dst_slot], src[src_slot]);
+        src_slot += 1;
+    }
+}
+
+// A number to add, and no branch, for the same reason.
+pub fn one_if_zero(value: u8) -> u32
+    ensures { λ r. ⌜ r ≡ pick (eqb value 0) 1 0 ⌝ }
+{
+    if value == 0 { 1 } else { 0 }
+}
+
+struct Seen {
+    zeros: u32,
+    largest: u8,
+}
+
+// One pass and no early exit, so that it becomes vector code.
+fn tally(regs: &[u8]) -> Seen
+    requires { ⌜ length (now regs) ≤ 2 ^ 21 ⌝ }
+    ensures { λ r. ⌜ Tallied (now (regs .entry)) (r .zeros) (r .largest) ⌝ }
+{
+    let mut zeros: u32 = 0;
+    let mut largest: u8 = 0;
+    let mut at = 0;
+    while at < regs.len() {
+        let value = regs[at];
+        zeros += one_if_zero(value);
+        largest = larger(largest, value);
+        at += 1;
+    }
+    Seen { zeros, largest }
+}
+
+pub fn count_zeros(regs: &[u8]) -> u32
+    requires { ⌜ length (now regs) ≤ 2 ^ 21 ⌝ }
+    ensures { λ r. ⌜ r ≡ countOf 0 (now (regs .entry)) ⌝ }
+{
+    tally(regs).zeros
+}
+
+// Good order. What the record says of itself is judged first; that num_at_cur_min is at most k follows from the zeros counted.
+pub fn is_good(s: Sketch, regs: &[u8]) -> bool
+    requires { ⌜ Lent 8 s (now regs) ⌝ }
+    ensures { λ r. ⌜ r ≡ goodOf s (now (regs .entry)) [] ⌝ }
+{
+    if s.cur_min != 0 {
+        return false;
+    }
+    if s.aux_count != 0 {
+        return false;
+    }
+    let seen = tally(regs);
+    if 63 < seen.largest {
+        return false;
+    }
+    s.num_at_cur_min == seen.zeros
+}
