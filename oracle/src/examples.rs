@@ -19,13 +19,13 @@ impl Random {
         ((x ^ x >> 31) >> 32) as u32 % bound
     }
 
-    fn shuffle<T>(&mut self, list: &mut [T]) {
+    pub fn shuffle<T>(&mut self, list: &mut [T]) {
         for i in (1..list.len()).rev() {
             list.swap(i, self.below(i as u32 + 1) as usize);
         }
     }
 
-    fn slots(&mut self, k: u32) -> Vec<u32> {
+    pub fn slots(&mut self, k: u32) -> Vec<u32> {
         let mut slots: Vec<u32> = (0..k).collect();
         self.shuffle(&mut slots);
         slots

@@ -19,6 +19,14 @@ pub mod request;
 /// Carries the methods that reach private items of `hll`; see the stand-ins' door.rs.
 pub struct Door;
 
+/// Names types that are public in private modules of `hll`; the same file says which they are.
+pub trait Names {
+    type AuxMap;
+}
+
+/// The crate's exception table, with the functions it offers `Array4`.
+pub type AuxMap = <Door as Names>::AuxMap;
+
 /// How a sketch comes about.
 #[derive(Clone, Debug)]
 pub enum Recipe {

@@ -3,12 +3,17 @@
 //! A child module sees its parent's private items, and an `impl` is known wherever its type
 //! is; so the methods below can be called from outside without a change to the Rust.
 
-use crate::Door;
 use crate::hll::array4::Array4;
 use crate::hll::array6::Array6;
 use crate::hll::array8::Array8;
+use crate::hll::aux_map::AuxMap;
 use crate::hll::mode::Mode;
 use crate::hll::{Coupon, HllSketch};
+use crate::{Door, Names};
+
+impl Names for Door {
+    type AuxMap = AuxMap;
+}
 
 impl Door {
     pub fn coupon(word: u32) -> Coupon {
