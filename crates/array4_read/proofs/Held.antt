@@ -1,0 +1,105 @@
+-- A sketch of kind 4 in good order: what its record, its bytes and its area are to its registers, and what a search yields. Assumes nothing.
+use mathlib.Core.Path.{_≡_, sym, _∙_, ap, subst}
+use mathlib.Core.List.{List}
+use Prim.Native.Nat.{ℕ, _+_, _*_, _^_, _≤_, _<_}
+use native.Mathlib.Omega.{arith}
+use lib.ListN.{length, getD, take}
+use lib.Pow.{pow-mono, pow-pos}
+use borrow.Author.Tests.{ne-eqb}
+use Rattle.model.specs.Coupon.{value}
+use Rattle.model.specs.Registers.{least, countOf, above}
+use Rattle.model.specs.Packed.{slotAt}
+use Rattle.model.specs.Table.{Room, baseFor, tableSize, wordAt, used}
+use Rattle.model.specs.Four.{TableAt, nibble}
+use Rattle.model.specs.Sketch.{sketchOf, tableIn, registers, Good}
+use Rattle.model.specs.declared.Sketch.{Sketch}
+use Rattle.model.proofs.Sizes.{fours}
+use Rattle.model.proofs.Lowest.{least-le, least-most}
+use Rattle.model.proofs.Search.{value-of-word}
+use Rattle.model.proofs.Shape.{shape-size}
+use Rattle.model.proofs.Tables.{table-used, table-few, table-word, word-some}
+use Rattle.model.proofs.Stored.{stored-slots}
+use Rattle.model.proofs.FourLaws.{four-record, four-stored, four-table, four-long, four-length}
+use Rattle.aux_map.specs.declared.Got.the-variants.{Value}
+use Rattle.aux_map.specs.Search.{gets}
+use Rattle.aux_map.proofs.Bases.{based}
+use Rattle.aux_table.proofs.Requires.{find-met}
+use Rattle.array4_read.specs.Asks.{Tabulated}
+
+gets-word : (t : List ℕ) (i w : ℕ) → wordAt t i ≡ w → (w ≡ 0 → ⊥) → gets t i ≡ Value (value w)
+unfolding gets
+gets-word t i w e n = rw (e, ne-eqb w 0 n)
+
+module _ (s : Sketch) (regs aux : List ℕ) (four : s .kind ≡ 4) (good : Good s regs aux) where
+  abbrev R : List ℕ
+  R = registers s regs aux
+
+  pub long : length R ≡ 2 ^ s .«lg_k»
+  long = four-length s regs aux four (good .shaped)
+
+  pub bytes-long : 2 * length regs ≡ 2 ^ s .«lg_k»
+  bytes-long = four-long s regs aux four (good .shaped)
+
+  pub bytes-few : 2 * length regs ≤ 2 ^ 21
+  bytes-few = rw bytes-long (pow-mono (good .shaped .high))
+
+  pub bytes-some : 0 < 2 * length regs
+  bytes-some = rw bytes-long (pow-pos (s .«lg_k»))
+
+  pub few : length R ≤ 2 ^ 21
+  few = rw long (pow-mono (good .shaped .high))
+
+  record-is : s ≡ sketchOf (s .kind) (s .«lg_k») (least R) (countOf (least R) R) (above (least R + 15) R)
+  record-is = good .record-is ∙ four-record (s .kind) (s .«lg_k») R four
+
+  low-is : s .«cur_min» ≡ least R
+  low-is = ap (λ x. x .«cur_min») record-is
+
+  pub low-most : s .«cur_min» ≤ 63
+  low-most = omega (arith, low-is, least-most R)
+
+  pub nibble-is : (i : ℕ) → i < length R → slotAt 4 regs i ≡ nibble (s .«cur_min») (getD R i 0)
+  nibble-is i l =
+      ap (λ (b : List ℕ). slotAt 4 b i) (good .bytes-are ∙ four-stored (s .kind) (s .«lg_k») R four)
+      ∙ stored-slots (least R) R (rw long (omega (arith, fours (s .«lg_k») (good .shaped .low)))) i l
+      ∙ ap (λ (n : ℕ). nibble n (getD R i 0)) (sym low-is)
+
+  -- ---- the table
+  pub table : TableAt (baseFor (s .«lg_k»)) (s .«cur_min») R (tableIn s aux)
+  table = subst (λ (n : ℕ). TableAt (baseFor (s .«lg_k»)) n R (tableIn s aux)) (sym low-is) (good .tabled four .table)
+
+  count-is : s .«aux_count» ≡ used (tableIn s aux)
+  count-is = ap (λ x. x .«aux_count») record-is ∙ ap (λ (n : ℕ). above (n + 15) R) (sym low-is) ∙ sym (table-used table few)
+
+  pub tabulated : Tabulated s
+  tabulated = record { low = good .shaped .low; high = good .shaped .high; few = omega (arith, count-is, table-few table few, long) }
+
+  -- as many words of the area as the size rule says
+  module _ (size : ℕ) (e : size ≡ tableSize (baseFor (s .«lg_k»)) (s .«aux_count»)) where
+    pub front : take size aux ≡ tableIn s aux
+    front = rw e (sym (four-table s regs aux four))
+
+    pub part : size ≡ length (take size aux)
+    part = e ∙ ap (tableSize (baseFor (s .«lg_k»))) count-is ∙ sym (shape-size (table .shape)) ∙ ap length (sym front)
+
+  -- ---- one register
+  module _ (i raw : ℕ) (l : i < 2 ^ s .«lg_k») (read : raw ≡ slotAt 4 regs i) where
+    inside : i < length R
+    inside = rw long l
+
+    pub low-get : raw < 15 → s .«cur_min» + raw ≡ getD R i 0
+    low-get h = omega (arith, nibble-is i inside, low-is, least-le R i inside)
+
+    high : 15 ≤ raw → s .«cur_min» + 15 ≤ getD R i 0
+    high h = omega (arith, nibble-is i inside)
+
+    module _ (h : 15 ≤ raw) (size : ℕ) (e : size ≡ tableSize (baseFor (s .«lg_k»)) (s .«aux_count»)) where
+      pub room : Room (take size aux)
+      room = rw (front size e) (find-met _ (s .«cur_min») R (tableIn s aux) (based (s .«lg_k») (omega (arith, good .shaped .low)) (omega (arith, good .shaped .high))) (omega (arith, few)) table i inside (high h))
+
+      pub high-get : gets (take size aux) i ≡ Value (getD R i 0)
+      high-get =
+          let big = high h in
+          ap (λ (t : List ℕ). gets t i) (front size e)
+          ∙ gets-word (tableIn s aux) i _ (table-word table few i inside big) (word-some i (getD R i 0) (omega arith))
+          ∙ ap Value (value-of-word i (getD R i 0) (omega (arith, few, inside)) (omega (arith, good .small i inside)))

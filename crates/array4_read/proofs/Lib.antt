@@ -1,0 +1,5 @@
+pub mod Surveying
+pub mod Passing
+pub mod Held
+pub mod Spreading
+pub mod Pouring
