@@ -17,9 +17,9 @@ use Rattle.model.proofs.Sizes.{fours}
 use Rattle.model.proofs.Lowest.{least-le, least-most}
 use Rattle.model.proofs.Search.{value-of-word}
 use Rattle.model.proofs.Shape.{shape-size}
-use Rattle.model.proofs.Tables.{table-used, table-few, table-word, word-some}
-use Rattle.model.proofs.Stored.{stored-slots}
-use Rattle.model.proofs.FourLaws.{four-record, four-stored, four-table, four-long, four-length}
+use Rattle.model.proofs.Tables.{table-few, table-word, word-some}
+use Rattle.model.proofs.FourLaws.{four-table, four-long}
+use Rattle.model.proofs.FourGood as book
 use Rattle.aux_map.specs.declared.Got.the-variants.{Value}
 use Rattle.aux_map.specs.Search.{gets}
 use Rattle.aux_map.proofs.Bases.{based}
@@ -34,9 +34,6 @@ module _ (s : Sketch) (regs aux : List ℕ) (four : s .kind ≡ 4) (good : Good 
   abbrev R : List ℕ
   R = registers s regs aux
 
-  pub long : length R ≡ 2 ^ s .«lg_k»
-  long = four-length s regs aux four (good .shaped)
-
   pub bytes-long : 2 * length regs ≡ 2 ^ s .«lg_k»
   bytes-long = four-long s regs aux four (good .shaped)
 
@@ -46,30 +43,27 @@ module _ (s : Sketch) (regs aux : List ℕ) (four : s .kind ≡ 4) (good : Good 
   pub bytes-some : 0 < 2 * length regs
   bytes-some = rw bytes-long (pow-pos (s .«lg_k»))
 
-  pub few : length R ≤ 2 ^ 21
-  few = rw long (pow-mono (good .shaped .high))
+  pub long : length R ≡ 2 ^ s .«lg_k»
+  long = book.long s regs aux four good
 
-  record-is : s ≡ sketchOf (s .kind) (s .«lg_k») (least R) (countOf (least R) R) (above (least R + 15) R)
-  record-is = good .record-is ∙ four-record (s .kind) (s .«lg_k») R four
+  pub few : length R ≤ 2 ^ 21
+  few = book.sizes s regs aux four good .few
 
   low-is : s .«cur_min» ≡ least R
-  low-is = ap (λ x. x .«cur_min») record-is
+  low-is = book.low-is s regs aux four good
 
   pub low-most : s .«cur_min» ≤ 63
   low-most = omega (arith, low-is, least-most R)
 
   pub nibble-is : (i : ℕ) → i < length R → slotAt 4 regs i ≡ nibble (s .«cur_min») (getD R i 0)
-  nibble-is i l =
-      ap (λ (b : List ℕ). slotAt 4 b i) (good .bytes-are ∙ four-stored (s .kind) (s .«lg_k») R four)
-      ∙ stored-slots (least R) R (rw long (omega (arith, fours (s .«lg_k») (good .shaped .low)))) i l
-      ∙ ap (λ (n : ℕ). nibble n (getD R i 0)) (sym low-is)
+  nibble-is i l = book.nibble-is s regs aux four good i l ∙ ap (λ (n : ℕ). nibble n (getD R i 0)) (sym low-is)
 
   -- ---- the table
   pub table : TableAt (baseFor (s .«lg_k»)) (s .«cur_min») R (tableIn s aux)
-  table = subst (λ (n : ℕ). TableAt (baseFor (s .«lg_k»)) n R (tableIn s aux)) (sym low-is) (good .tabled four .table)
+  table = subst (λ (n : ℕ). TableAt (baseFor (s .«lg_k»)) n R (tableIn s aux)) (sym low-is) (book.table s regs aux four good)
 
   count-is : s .«aux_count» ≡ used (tableIn s aux)
-  count-is = ap (λ x. x .«aux_count») record-is ∙ ap (λ (n : ℕ). above (n + 15) R) (sym low-is) ∙ sym (table-used table few)
+  count-is = book.count-is s regs aux four good
 
   pub tabulated : Tabulated s
   tabulated = record { low = good .shaped .low; high = good .shaped .high; few = omega (arith, count-is, table-few table few, long) }
@@ -80,7 +74,7 @@ module _ (s : Sketch) (regs aux : List ℕ) (four : s .kind ≡ 4) (good : Good 
     front = rw e (sym (four-table s regs aux four))
 
     pub part : size ≡ length (take size aux)
-    part = e ∙ ap (tableSize (baseFor (s .«lg_k»))) count-is ∙ sym (shape-size (table .shape)) ∙ ap length (sym front)
+    part = e ∙ sym (book.size-is s regs aux four good) ∙ ap length (sym front)
 
   -- ---- one register
   module _ (i raw : ℕ) (l : i < 2 ^ s .«lg_k») (read : raw ≡ slotAt 4 regs i) where

@@ -28,6 +28,7 @@ use Rattle.model.proofs.Reading.{length-values}
 use Rattle.model.proofs.Nibbles.{zeros-are, fifteens-are}
 use Rattle.model.proofs.Tests.{cells-long, CountsFit, WordFits, TableFits, Passes, counts-tells, values-tells, spare-tells, tally-tells, table-tells, good-asks}
 use Rattle.model.proofs.Checked.{Fit, checked-floor, checked-small, checked-nibbles, checked-table}
+use Rattle.model.proofs.FourGood as good
 use Rattle.model.proofs.FourLaws.{four-record, four-stored, four-table, four-registers, four-long}
 
 module _ (s : Sketch) (regs aux : List ℕ) (four : s .kind ≡ 4) (shaped : Shaped (s .kind) (s .«lg_k») (length regs)) (bytes : Bytes regs) where
@@ -114,35 +115,8 @@ module _ (s : Sketch) (regs aux : List ℕ) (four : s .kind ≡ 4) (shaped : Sha
     length-Q : length Q ≡ length (cells s regs)
     length-Q = ap length reading ∙ length-R
 
-    ok-Q : Sized (baseFor (s .«lg_k»)) (length Q)
-    ok-Q = rw length-Q ok
-
-    record-is : s ≡ sketchOf (s .kind) (s .«lg_k») (least Q) (countOf (least Q) Q) (above (least Q + 15) Q)
-    record-is = g .record-is ∙ four-record (s .kind) (s .«lg_k») Q four
-
-    low-is : s .«cur_min» ≡ least Q
-    low-is = ap (λ x. x .«cur_min») record-is
-
-    num-is : s .«num_at_cur_min» ≡ countOf (least Q) Q
-    num-is = ap (λ x. x .«num_at_cur_min») record-is
-
-    table : TableAt (baseFor (s .«lg_k»)) (least Q) Q (tableIn s aux)
-    table = g .tabled four .table
-
-    words : used (tableIn s aux) ≡ above (least Q + 15) Q
-    words = table-used table (ok-Q .few)
-
-    count-is : s .«aux_count» ≡ used (tableIn s aux)
-    count-is = ap (λ x. x .«aux_count») record-is ∙ sym words
-
-    size-is : length (tableIn s aux) ≡ tableSize (baseFor (s .«lg_k»)) (s .«aux_count»)
-    size-is = shape-size (table .shape) ∙ ap (tableSize (baseFor (s .«lg_k»))) (sym count-is)
-
     cells-of : (i : ℕ) → i < length Q → getD (cells s regs) i 0 ≡ nibble (least Q) (getD Q i 0)
-    cells-of i l =
-        cell-is i (rw length-Q at l)
-        ∙ ap (λ (b : List ℕ). slotAt 4 b i) (g .bytes-are ∙ four-stored (s .kind) (s .«lg_k») Q four)
-        ∙ stored-slots (least Q) Q (rw reading even) i l
+    cells-of i l = cell-is i (rw length-Q at l) ∙ good.nibble-is s regs aux four g i l
 
     word-fits : (x : ℕ) → Exception (least Q) Q x → WordFits (s .«cur_min») (cells s regs) x
     word-fits x e =
@@ -151,7 +125,7 @@ module _ (s : Sketch) (regs aux : List ℕ) (four : s .kind ≡ 4) (shaped : Sha
         record {
           inside = rw length-Q at (e .inside);
           token = cells-of (slot x) (e .inside) ∙ omega (arith, e .high);
-          high = omega (arith, low-is, e .high);
+          high = omega (arith, good.low-is s regs aux four g, e .high);
           whole = omega (arith, e .right);
         }
 
@@ -159,20 +133,20 @@ module _ (s : Sketch) (regs aux : List ℕ) (four : s .kind ≡ 4) (shaped : Sha
     unfolding Reached
     good-passes = record {
       counts = tells-true _ (counts-tells s) (record {
-        num = omega (arith, num-is, count-le (least Q) Q, length-Q, long);
-        count = omega (arith, count-is, table-few table (ok-Q .few), length-Q, long);
-        low = λ e. omega (arith, low-is, least-most Q);
+        num = omega (arith, good.num-is s regs aux four g, count-le (least Q) Q, length-Q, long);
+        count = omega (arith, good.count-is s regs aux four g, table-few (good.table s regs aux four g) (good.sizes s regs aux four g .few), length-Q, long);
+        low = λ e. omega (arith, good.low-is s regs aux four g, least-most Q);
         none = λ n. absurd (n four);
       });
-      values = tells-true _ (values-tells s regs) (λ i l k. let m : i < length Q = rw length-Q l in omega (arith, low-is, cells-of i m, g .small i m, least-le Q i m));
+      values = tells-true _ (values-tells s regs) (λ i l k. let m : i < length Q = rw length-Q l in omega (arith, good.low-is s regs aux four g, cells-of i m, g .small i m, least-le Q i m));
       spare = tells-true _ (spare-tells s regs) (λ e. absurd (omega arith));
-      tally = tells-true _ (tally-tells s regs) (num-is ∙ sym (zeros-are (least Q) (cells s regs) Q (sym length-Q) (least-le Q) cells-of), λ e. rw num-is (least-at Q (ok-Q .some) (g .small)));
+      tally = tells-true _ (tally-tells s regs) (good.num-is s regs aux four g ∙ sym (zeros-are (least Q) (cells s regs) Q (sym length-Q) (least-le Q) cells-of), λ e. rw (good.num-is s regs aux four g) (least-at Q (good.sizes s regs aux four g .some) (g .small)));
       table = λ e. tells-true _ (table-tells s regs aux) (record {
-        fits = omega (arith, size-is, g .tabled four .fits);
-        many = sym count-is;
-        marked = fifteens-are (least Q) (cells s regs) Q (sym length-Q) (least-le Q) cells-of ∙ sym (count-is ∙ words);
-        behind = rw (g .tabled four .area) (past-laid (length aux) _ (tableIn s aux) size-is);
-        words = λ p l h. (word-fits _ (table .from _ h (p, l, refl)), shape-good (table .shape) p l h);
+        fits = omega (arith, good.size-is s regs aux four g, g .tabled four .fits);
+        many = sym (good.count-is s regs aux four g);
+        marked = fifteens-are (least Q) (cells s regs) Q (sym length-Q) (least-le Q) cells-of ∙ sym (good.count-is s regs aux four g ∙ good.words s regs aux four g);
+        behind = rw (g .tabled four .area) (past-laid (length aux) _ (tableIn s aux) (good.size-is s regs aux four g));
+        words = λ p l h. (word-fits _ (good.table s regs aux four g .from _ h (p, l, refl)), shape-good (good.table s regs aux four g .shape) p l h);
       });
     }
 

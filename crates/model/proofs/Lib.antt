@@ -33,6 +33,7 @@ pub mod Stored
 pub mod Reading
 pub mod Area
 pub mod FourLaws
+pub mod FourGood
 pub mod Nibbles
 pub mod Checked
 pub mod FourTells

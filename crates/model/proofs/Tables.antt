@@ -69,8 +69,8 @@ made-table {base} {low} {R} {ws} ok can from to = record {
 
 -- ---- cur_min rises by one: the exceptions that stay
 module _ {base low : ℕ} {R t : List ℕ} (ok : Sized base (length R)) (small : Small R) (ta : TableAt base low R t) where
-  stays : Makable (keeps (suc low + 15) t)
-  stays = record {
+  pub rise-words : Makable (keeps (suc low + 15) t)
+  rise-words = record {
     few = omega (arith, keeps-few (suc low + 15) t (omega arith), table-few ta (ok .few), ok .few);
     some = λ x m z. let r = keeps-from (suc low + 15) t x m in omega (arith, r .1);
     distinct = keeps-distinct (suc low + 15) t (no-slot-twice t (shape-good (ta .shape)));
@@ -79,14 +79,14 @@ module _ {base low : ℕ} {R t : List ℕ} (ok : Sized base (length R)) (small :
   pub table-rise : TableAt base (suc low) R (risen base (suc low) t)
   unfolding risen
   table-rise =
-      made-table ok stays (λ x hx m. let r = keeps-from (suc low + 15) t x m in let e = ta .from x hx (r .0) in record { inside = e .inside; right = e .right; high = omega (arith, r .1, e .right) })
+      made-table ok rise-words (λ x hx m. let r = keeps-from (suc low + 15) t x m in let e = ta .from x hx (r .0) in record { inside = e .inside; right = e .right; high = omega (arith, r .1, e .right) })
       (λ s l h. keeps-to (suc low + 15) t (word s (getD R s 0)) (ta .to s l (omega arith)) (omega (arith, value-of-word s (getD R s 0) (omega (arith, ok .few)) (omega (arith, small s l)))))
 
   -- no longer than it was
   pub rise-shorter : length (risen base (suc low) t) ≤ length t
   unfolding risen
   rise-shorter =
-      omega (arith, made-size (keeps (suc low + 15) t) ok stays, shape-size (ta .shape), size-shorter base (length (keeps (suc low + 15) t)) (used t) (keeps-few (suc low + 15) t (omega arith)))
+      omega (arith, made-size (keeps (suc low + 15) t) ok rise-words, shape-size (ta .shape), size-shorter base (length (keeps (suc low + 15) t)) (used t) (keeps-few (suc low + 15) t (omega arith)))
 
 -- from low to low + n
 pub table-climb : {base : ℕ} (low n : ℕ) {R : List ℕ} (t : List ℕ) → Sized base (length R) → Small R → TableAt base low R t

@@ -1,0 +1,11 @@
+pub mod Lowering
+pub mod Freeing
+pub mod Holding
+pub mod Reading
+pub mod Rising
+pub mod Remaking
+pub mod Settling
+pub mod Placing
+pub mod Excepting
+pub mod Updating
+pub mod Feeding
