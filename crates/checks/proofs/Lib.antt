@@ -1,0 +1,2 @@
+pub mod Rungs
+pub mod ByKind

@@ -1,0 +1,44 @@
+-- The parts of an image behind its header, and what each function asks of them. Assumes nothing.
+use mathlib.Core.Path.{_≡_, _∙_, ap}
+use mathlib.Core.Bool.{Bool, true, false}
+use mathlib.Core.List.{List}
+use Prim.Native.Nat.{ℕ, _+_, _-_, _*_, _/_, _^_, _≤_, _<_}
+use native.Mathlib.Omega.{arith}
+use lib.Dec.{eqb}
+use lib.ListN.{length, take, drop, length-drop}
+use lib.Pow.{pow-mono}
+use lib.Seq.{length-take-le, take-all}
+use Rattle.model.specs.Pick.{pick}
+use Rattle.model.specs.Sketch.{bytesOf}
+use Rattle.model.specs.Image.{sketchIn, regsIn}
+use Rattle.model.specs.declared.Sketch.{Sketch}
+
+-- there is a last byte
+pub bytes-some : (kind lgk : ℕ) → 4 ≤ lgk → 0 < bytesOf kind lgk
+unfolding bytesOf
+bytes-some kind lgk h = go (eqb kind 8) (eqb kind 6) (pow-mono h)
+  where
+    go : (a b : Bool) → 2 ^ 4 ≤ 2 ^ lgk → 0 < pick a (2 ^ lgk) (pick b (2 ^ lgk / 4 * 3 + 1) (2 ^ lgk / 2))
+    go true b e = omega arith
+    go false true e = omega arith
+    go false false e = omega arith
+
+module _ (l : List ℕ) (s : Sketch) (is : s ≡ sketchIn l) where
+  size-is : bytesOf (s .kind) (s .«lg_k») ≡ bytesOf (sketchIn l .kind) (sketchIn l .«lg_k»)
+  size-is = ap (λ (r : Sketch). bytesOf (r .kind) (r .«lg_k»)) is
+
+  -- the register bytes, as the code cuts them out
+  module _ (n : ℕ) (e : n ≡ bytesOf (s .kind) (s .«lg_k»)) where
+    pub regs-part : take (40 + n - 40) (drop 40 l) ≡ regsIn l
+    unfolding regsIn
+    regs-part = let z : 40 + n - 40 ≡ n = omega arith in ap (λ (m : ℕ). take m (drop 40 l)) (z ∙ e ∙ size-is)
+
+    pub regs-long : 40 + n ≤ length l → length (take (40 + n - 40) (drop 40 l)) ≡ n
+    regs-long h = let z : 40 + n - 40 ≡ n = omega arith in length-take-le (40 + n - 40) (drop 40 l) (omega (arith, length-drop 40 l)) ∙ z
+
+    -- and what is behind them
+    pub words-part : take (length l - (40 + n)) (drop (40 + n) l) ≡ drop (40 + bytesOf (sketchIn l .kind) (sketchIn l .«lg_k»)) l
+    words-part = take-all (length l - (40 + n)) (drop (40 + n) l) (omega (arith, length-drop (40 + n) l)) ∙ ap (λ (m : ℕ). drop (40 + m) l) (e ∙ size-is)
+
+    pub words-long : length (take (length l - (40 + n)) (drop (40 + n) l)) ≡ length l - (40 + n)
+    words-long = ap length (take-all (length l - (40 + n)) (drop (40 + n) l) (omega (arith, length-drop (40 + n) l))) ∙ length-drop (40 + n) l

@@ -1,0 +1,4 @@
+pub mod Cells
+pub mod Turns
+pub mod Listing
+pub mod Collecting

@@ -1,0 +1,3 @@
+pub mod PlainKept
+pub mod Outcomes
+pub mod Merging

@@ -1,0 +1,83 @@
+-- `sketch::merge` meets its contract: one law of the ladder for each return. Assumes nothing.
+use mathlib.Core.Path.{_≡_, sym, _∙_}
+use mathlib.Core.Bool.{true}
+use denote.Ref.{now}
+use Rattle.model.specs.Check.{checkNo}
+use Rattle.model.specs.Calls.{eightNo}
+use Rattle.sketch.proofs.Merging.{merge-target, merge-source, merge-finer, joinable, after-few, merge-ok}
+use borrow.Author.Needs.{needs}
+use Rattle.sketch.proofs.merge.Statement.{statement}
+use Rattle.sketch.proofs.merge.Tie as tie
+
+target-ok : (c : tie.Else1) → let a = c .before .before .before .before .before .before .before .args in eightNo (a .target) (now (a .tregs)) ≡ 0
+target-ok c = sym (c .before .before .eight .ensures) ∙ sym (c .before .number .ensures) ∙ c .if1 .left
+
+source-ok : (c : tie.Else2) → let a = c .before .before .before .before .before .before .before .before .before .before .args in checkNo true (a .source) (now (a .sregs)) (now (a .saux)) ≡ 0
+source-ok c = sym (c .before .before .check .ensures) ∙ sym (c .before .number2 .ensures) ∙ c .if2 .left
+
+eight-requires : tie.Need-eight-requires
+eight-requires c κs = search needs
+
+number-requires : tie.Need-number-requires
+number-requires c κs = search needs
+
+same-length : tie.Need-same-length
+same-length c = search needs
+
+returns : tie.Need-returns
+returns c = merge-target _ _ _ _ _ (c .before .before .eight .ensures) (λ e. c .if1 .taken (c .before .number .ensures ∙ e))
+
+check-requires : tie.Need-check-requires
+check-requires c κs = search needs
+
+number-requires-2 : tie.Need-number-requires-2
+number-requires-2 c κs = search needs
+
+same-length-2 : tie.Need-same-length-2
+same-length-2 c = search needs
+
+returns-2 : tie.Need-returns-2
+returns-2 c = merge-source _ _ _ _ _ (target-ok (c .before .before .before)) (c .before .before .check .ensures) (λ e. c .if2 .taken (c .before .number2 .ensures ∙ e))
+
+same-length-3 : tie.Need-same-length-3
+same-length-3 c = search needs
+
+returns-3 : tie.Need-returns-3
+returns-3 c = merge-finer _ _ _ _ _ (target-ok (c .before .before .before .before .before .before)) (source-ok (c .before .before .before)) (c .if3 .taken)
+
+join-requires : tie.Need-join-requires
+join-requires c κs = joinable _ _ _ _ _ (target-ok (c .before .before .before .before .before .before .before)) (source-ok (c .before .before .before .before)) (c .before .if3 .left) (λ i. c .before .before .before .before .before .before .before .before .before .before .before .before .before .slice-known .given i .fits) (λ i. c .before .before .before .before .before .before .before .before .before .before .before .before .shared-slice-known .given i .fits)
+
+count-zeros-requires : tie.Need-count-zeros-requires
+count-zeros-requires c κs = after-few _ _ _ _ _ (target-ok (c .before .before .before .before .before .before .before .before .before .before .before)) (source-ok (c .before .before .before .before .before .before .before .before)) (c .before .before .before .before .before .if3 .left) (λ i. c .before .before .before .before .before .before .before .before .before .before .before .before .before .before .before .before .before .slice-known .given i .fits) (λ i. c .before .before .before .before .before .before .before .before .before .before .before .before .before .before .before .before .shared-slice-known .given i .fits) (c .before .before .before .join .ensures)
+
+plain-requires : tie.Need-plain-requires
+plain-requires c κs = search needs
+
+same-length-4 : tie.Need-same-length-4
+same-length-4 c = search needs
+
+returns-4 : tie.Need-returns-4
+returns-4 c =
+    merge-ok _ _ _ _ _ (target-ok (c .before .before .before .before .before .before .before .before .before .before .before .before .before)) (source-ok (c .before .before .before .before .before .before .before .before .before .before)) (c .before .before .before .before .before .before .before .if3 .left) (λ i. c .before .before .before .before .before .before .before .before .before .before .before .before .before .before .before .before .before .before .before .slice-known .given i .fits) (λ i. c .before .before .before .before .before .before .before .before .before .before .before .before .before .before .before .before .before .before .shared-slice-known .given i .fits)
+    (c .before .before .before .before .before .join .ensures) (c .before .count-zeros .ensures) (c .plain .ensures)
+
+pub merge-spec : {M : Type 1} → statement M
+merge-spec =
+    tie.close
+    (tie.spec
+    eight-requires
+    number-requires
+    same-length
+    returns
+    check-requires
+    number-requires-2
+    same-length-2
+    returns-2
+    same-length-3
+    returns-3
+    join-requires
+    count-zeros-requires
+    plain-requires
+    same-length-4
+    returns-4)

@@ -1,0 +1,272 @@
+// The public calls over a sketch whose record goes in and comes out by value: start, view, feed, unpack, merge. No call asks for anything:
+// each contract is one equation, which fixes the answer, the record, the count and all lent memory but scratch, for every input.
+use model::Answer;
+use model::Sketch;
+ghost use mathlib.Core.Path.{_≡_};
+ghost use mathlib.Core.Bool.{true};
+ghost use mathlib.Core.List.{[]};
+ghost use mathlib.Core.Logic.{_⊎_};
+ghost use Prim.Native.Nat.{_^_};
+ghost use lib.Dec.{eqb, leb};
+ghost use lib.ListN.{length, replicate};
+ghost use Rattle.model.specs.Answers.{numberOf};
+ghost use Rattle.model.specs.Pick.{pick};
+ghost use Rattle.model.specs.Registers.{fed, joined};
+ghost use Rattle.model.specs.Sketch.{sketchOf, areaOf, registers};
+ghost use Rattle.model.specs.Calls.{out, startOf, feedOf, unpackOf, eightNo, viewOf, mergeOf};
+ghost use Rattle.sketch.specs.Asked.{Plain, Unpackable, Joinable};
+ghost use Rattle.sketch.specs.Given.{Kept, unpacked};
+
+pub struct Made {
+    pub answer: Answer,
+    pub sketch: Sketch,
+}
+
+pub struct Fed {
+    pub answer: Answer,
+    pub sketch: Sketch,
+    pub taken: usize,
+}
+
+// A record that says only how many registers are zero: of kinds 6 and 8, and of an empty sketch.
+fn plain(kind: u8, lg_k: u8, zeros: u32) -> Sketch
+    ensures { λ r. ⌜ r ≡ sketchOf kind «lg_k» 0 zeros 0 ⌝ }
+{
+    Sketch {
+        kind,
+        lg_k,
+        cur_min: 0,
+        num_at_cur_min: zeros,
+        aux_count: 0,
+    }
+}
+
+fn zero(regs: &mut [u8])
+    ensures { λ _. ⌜ now (regs .exit) ≡ replicate (length (now (regs .entry))) 0 ⌝ }
+{
+    let mut at = 0;
+    while at < regs.len() {
+        regs[at] = 0;
+        at += 1;
+    }
+}
+
+// Kinds 6 and 8 leave the exception area alone.
+fn clear_area(kind: u8, aux: &mut [u32])
+    ensures { λ _. ⌜ now (aux .exit) ≡ areaOf kind [] (now (aux .entry)) ⌝ }
+{
+    if kind != 4 {
+        return;
+    }
+    aux_map::clear(aux);
+}
+
+pub fn start(kind: u8, lg_k: u8, regs: &mut [u8], aux: &mut [u32]) -> Made
+    ensures { λ r. ⌜ out (numberOf (r .answer)) (r .sketch) 0 (now (regs .exit)) (now (aux .exit)) ≡ startOf kind «lg_k» (now (regs .entry)) (now (aux .entry)) ⌝ }
+{
+    let answer = checks::shape(kind, lg_k, regs.len());
+    if model::number(answer) != 0 {
+        return Made {
+            answer,
+            sketch: plain(0, 0, 0),
+        };
+    }
+    let k = array8::num_registers(lg_k);
+    zero(regs);
+    clear_area(kind, aux);
+    Made {
+        answer: Answer::Ok,
+        sketch: plain(kind, lg_k, k as u32),
+    }
+}
+
+// Whether a sketch is of kind 8 and in good order. It is lent no exception area, and needs none.
+fn eight(s: Sketch, regs: &[u8]) -> Answer
+    ensures { λ r. ⌜ numberOf r ≡ eightNo s (now (regs .entry)) ⌝ }
+{
+    if s.kind != 8 {
+        return Answer::Kind;
+    }
+    checks::check(true, s, regs, &[])
+}
+
+// The lent registers themselves, uncopied: the reference handed in. Where a check refuses, an empty part of it.
+pub fn view(sketch: Sketch, regs: &[u8]) -> &[u8]
+    ensures { λ r. ⌜ (now r ≡ viewOf sketch (now (regs .entry))) × (eightNo sketch (now (regs .entry)) ≡ 0 → r ≡ regs .entry) ⌝ }
+{
+    let answer = eight(sketch, regs);
+    if model::number(answer) != 0 {
+        return &regs[..0];
+    }
+    array8::values(regs)
+}
+
+// Only kind 4 uses the scratch.
+fn scratch_fits(kind: u8, needed: usize, lent: usize) -> bool
+    ensures { λ r. ⌜ r ≡ pick (eqb kind 4) (leb needed lent) true ⌝ }
+{
+    if kind != 4 {
+        return true;
+    }
+    needed <= lent
+}
+
+// Kinds 6 and 8 take every coupon.
+fn feed_plain(s: Sketch, regs: &mut [u8], coupons: &[u32]) -> Sketch
+    requires { ⌜ Plain s (now regs) ⌝ }
+    ensures { λ r. ⌜ Kept (s .kind) (s .«lg_k») (fed (2 ^ s .«lg_k») (registers s (now (regs .entry)) []) (now (coupons .entry))) r (now (regs .exit)) ⌝ }
+{
+    let lg_k = s.lg_k;
+    let zeros = s.num_at_cur_min;
+    if s.kind == 8 {
+        let left = array8::feed(lg_k, zeros, regs, coupons);
+        return plain(8, lg_k, left);
+    }
+    let left = array6::feed(lg_k, zeros, regs, coupons);
+    plain(6, lg_k, left)
+}
+
+// A batch's own answer: all coupons were taken, or one found no room.
+fn batch_answer(no: u8) -> Answer
+    requires { ⌜ (no ≡ 0) ⊎ (no ≡ 6) ⌝ }
+    ensures { λ r. ⌜ numberOf r ≡ no ⌝ }
+{
+    if no == 0 {
+        return Answer::Ok;
+    }
+    Answer::NoRoom
+}
+
+pub fn feed(
+    sketch: Sketch,
+    regs: &mut [u8],
+    aux: &mut [u32],
+    scratch: &mut [u32],
+    coupons: &[u32],
+) -> Fed
+    ensures { λ r. ⌜ out (numberOf (r .answer)) (r .sketch) (r .taken) (now (regs .exit)) (now (aux .exit)) ≡ feedOf sketch (now (regs .entry)) (now (aux .entry)) (now (scratch .entry)) (now (coupons .entry)) ⌝ }
+{
+    let fits = scratch_fits(sketch.kind, aux.len(), scratch.len());
+    let answer = checks::check(fits, sketch, regs, aux);
+    if model::number(answer) != 0 {
+        return Fed {
+            answer,
+            sketch,
+            taken: 0,
+        };
+    }
+    if sketch.kind == 4 {
+        let fed = array4::feed(sketch, regs, aux, scratch, coupons);
+        let after = fed.sketch;
+        return Fed {
+            answer: batch_answer(fed.no),
+            sketch: after,
+            taken: fed.taken,
+        };
+    }
+    let after = feed_plain(sketch, regs, coupons);
+    Fed {
+        answer: Answer::Ok,
+        sketch: after,
+        taken: coupons.len(),
+    }
+}
+
+// Any lg_k may be asked about: from 64 on no slice is so long.
+fn is_count(len: usize, lg_k: u8) -> bool
+    ensures { λ r. ⌜ r ≡ eqb len (2 ^ «lg_k») ⌝ }
+{
+    if 63 < lg_k {
+        return false;
+    }
+    len == 1usize << lg_k
+}
+
+fn copy(from: &[u8], to: &mut [u8])
+    requires { ⌜ length (now to) ≡ length (now from) ⌝ }
+    ensures { λ _. ⌜ now (to .exit) ≡ now (from .entry) ⌝ }
+{
+    let mut i = 0;
+    while i < from.len() {
+        to[i] = from[i];
+        i += 1;
+    }
+}
+
+fn unpack_good(s: Sketch, regs: &[u8], aux: &[u32], out: &mut [u8])
+    requires { ⌜ Unpackable s (now regs) (now aux) (length (now out)) ⌝ }
+    ensures { λ _. ⌜ now (out .exit) ≡ registers s (now (regs .entry)) (now (aux .entry)) ⌝ }
+{
+    if s.kind == 8 {
+        copy(regs, out);
+        return;
+    }
+    if s.kind == 6 {
+        array6::unpack(regs, out);
+        return;
+    }
+    array4_read::unpack(s, regs, aux, out);
+}
+
+pub fn unpack(sketch: Sketch, regs: &[u8], aux: &[u32], out: &mut [u8]) -> Answer
+    ensures { λ r. ⌜ unpacked (numberOf r) (now (out .exit)) ≡ unpackOf sketch (now (regs .entry)) (now (aux .entry)) (now (out .entry)) ⌝ }
+{
+    let fits = is_count(out.len(), sketch.lg_k);
+    let answer = checks::check(fits, sketch, regs, aux);
+    if model::number(answer) != 0 {
+        return answer;
+    }
+    unpack_good(sketch, regs, aux, out);
+    Answer::Ok
+}
+
+// Each kind goes straight into the target's registers, so no buffer is asked for. With as many registers no slot is reduced.
+fn join(s: Sketch, regs: &[u8], aux: &[u32], target: &mut [u8])
+    requires { ⌜ Joinable s (now regs) (now aux) (length (now target)) ⌝ }
+    ensures { λ _. ⌜ now (target .exit) ≡ joined (length (now (target .entry))) (now (target .entry)) (registers s (now (regs .entry)) (now (aux .entry))) ⌝ }
+{
+    if s.kind == 6 {
+        array6::merge_into(target, regs, s.lg_k);
+        return;
+    }
+    if s.kind == 4 {
+        array4_read::merge_into(s, regs, aux, target);
+        return;
+    }
+    if target.len() == regs.len() {
+        array8::merge_array_same_lgk(target, regs);
+        return;
+    }
+    array8::merge_array_with_downsample(target, regs);
+}
+
+pub fn merge(target: Sketch, tregs: &mut [u8], source: Sketch, sregs: &[u8], saux: &[u32]) -> Made
+    ensures { λ r. ⌜ out (numberOf (r .answer)) (r .sketch) 0 (now (tregs .exit)) [] ≡ mergeOf target (now (tregs .entry)) source (now (sregs .entry)) (now (saux .entry)) ⌝ }
+{
+    let mine = eight(target, tregs);
+    if model::number(mine) != 0 {
+        return Made {
+            answer: mine,
+            sketch: target,
+        };
+    }
+    let theirs = checks::check(true, source, sregs, saux);
+    if model::number(theirs) != 0 {
+        return Made {
+            answer: theirs,
+            sketch: target,
+        };
+    }
+    if source.lg_k < target.lg_k {
+        return Made {
+            answer: Answer::Finer,
+            sketch: target,
+        };
+    }
+    join(source, sregs, saux, tregs);
+    let left = array8::count_zeros(tregs);
+    Made {
+        answer: Answer::Ok,
+        sketch: plain(8, target.lg_k, left),
+    }
+}
