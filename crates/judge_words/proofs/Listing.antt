@@ -22,6 +22,7 @@ use Rattle.model.proofs.Refill.{used-zeros}
 use Rattle.model.proofs.Order.{insert-good, insert-new, insert-old, insert-inv, more-same, more-other, reads-none}
 use Rattle.model.proofs.Grown.{zeros-good, zeros-none}
 use Rattle.model.proofs.Taken.{taken-slot}
+use Rattle.model.proofs.Entries.{count-other}
 use Rattle.judge_words.specs.Entries.{entry, entries, fitting, listFits, Listable}
 use Rattle.judge_words.specs.Walk.{Roomy, Turned, turnOf, walkOf}
 use Rattle.judge_words.proofs.Turns.{roomed, roomy-insert, turn-skip, turn-full, turn-unfit, turn-twice, turn-new, walk-goes, walk-stops}
@@ -68,10 +69,6 @@ record Knows (t ss : List ℕ) (n count : ℕ) : Type 0 where
 count-head : (n v : ℕ) (vs : List ℕ) → v ≡ n → eqb (countOf n (v ∷ vs)) 0 ≡ false
 unfolding countOf
 count-head n v vs e = rw (eq-eqb v n e) (ne-eqb (suc (countOf n vs)) 0 (λ z. omega arith))
-
-count-other : (n v : ℕ) (vs : List ℕ) → (v ≡ n → ⊥) → countOf n (v ∷ vs) ≡ countOf n vs
-unfolding countOf
-count-other n v vs h = rw (ne-eqb v n h)
 
 knows-more : (t ss : List ℕ) (n count x : ℕ) → Knows t ss n count → n < count → (x ≡ 0 → ⊥) → wordAt t (slot x) ≡ 0 → Knows (insert t x) (slot x ∷ ss) (n + 1) count
 knows-more t ss n count x k h some none = record { roomy = more; few = omega arith; good = good′; has = λ sl. has′ sl (ℕ-discrete (slot x) sl) }

@@ -24,7 +24,7 @@ Fresh k seen es = (i : ℕ) → i < length es → countOf (home k (getD es i 0))
 abbrev pub Apart : ℕ → List ℕ → Type 0
 Apart k es = (i j : ℕ) → i < length es → j < length es → home k (getD es i 0) ≡ home k (getD es j 0) → i ≡ j
 
-count-other : (n v : ℕ) (vs : List ℕ) → (v ≡ n → ⊥) → countOf n (v ∷ vs) ≡ countOf n vs
+pub count-other : (n v : ℕ) (vs : List ℕ) → (v ≡ n → ⊥) → countOf n (v ∷ vs) ≡ countOf n vs
 unfolding countOf
 count-other n v vs h = rw (ne-eqb v n h)
 

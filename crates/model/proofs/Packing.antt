@@ -267,20 +267,9 @@ put-spare {w} {s} {v} {before} {after} p hb ha hw k n h e =
     pw : 256 ^ n ≡ 2 ^ (w * k)
     pw = sym (pow-mul 2 8 n) ∙ ap (λ (x : ℕ). 2 ^ x) e
 
--- there is one such buffer
-pub put-unique : {w s v : ℕ} {before xs ys : List ℕ} → 0 < w → Put w before s v xs → Put w before s v ys → Bytes xs → Bytes ys → xs ≡ ys
-put-unique {w} {s} {v} {before} hw p q hx hy =
-    let k : ℕ = 8 * length before in
-    let h : 1 * k ≤ w * k = mul-le-mul-right k hw in
-    put-packed p hx k (omega arith) ∙ sym (put-packed q hy k (omega arith))
-
 -- ---- a byte a slot
 pub slot-8 : (bs : List ℕ) → Bytes bs → (s : ℕ) → slotAt 8 bs s ≡ getD bs s 0
 slot-8 bs h s = omega (arith, slot-window 8 s 1 s 0 bs h (omega arith) (omega arith), h s)
-
-pub put-8 : (bs : List ℕ) → Bytes bs → (s v : ℕ) → s < length bs → v < 256 → Put 8 bs s v (set bs s v)
-put-8 bs h s v hs hv =
-    put-window 8 s 1 s 0 v v bs (set bs s v) h (omega arith) (omega arith) hv (simp length-set) (number-set-one bs s v hs) (omega (arith, h s))
 
 -- ---- a register raised in place
 pub put-raised : {w s : ℕ} (v : ℕ) {before after : List ℕ} → Put w before s (max (slotAt w before s) v) after → (k : ℕ) → s < k → unpacked w k after ≡ raise (unpacked w k before) s v

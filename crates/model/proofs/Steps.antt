@@ -53,25 +53,3 @@ module _ (A : Type 0) (f : A → ℕ → Step A) where
           let r = ih b (l .0) in
           (r .0, r .1 ∙ ap (λ (t : List ℕ). fed k t (take (ran f b cs .count) cs)) (l .1))
       go ih stopped e = (ok, refl)
-
-  -- the stop is at the first coupon for which there is no room, and without one all are taken
-  abbrev Stops : Ran A → List ℕ → Type 0
-  Stops r cs = (r .count < length cs) × (f (r .state) (getD cs (r .count) 0) ≡ stopped)
-
-  pub ran-first : (cs : List ℕ) (a : A) → 0 < ran f a cs .no → Stops (ran f a cs) cs
-  unfolding ran
-  ran-first [] a h = absurd (not-suc-le-zero h)
-  ran-first (c ∷ cs) a h = go (λ b q. ran-first cs b q) (f a c) refl h
-    where
-      go : ((b : A) → 0 < ran f b cs .no → Stops (ran f b cs) cs) → (t : Step A) → f a c ≡ t → 0 < First c cs a t .no → Stops (First c cs a t) (c ∷ cs)
-      go ih (went b) e q = let r = ih b q in (suc-le-suc (r .0), r .1)
-      go ih stopped e q = (omega arith, e)
-
-  pub ran-all : (cs : List ℕ) (a : A) → ran f a cs .no ≡ 0 → ran f a cs .count ≡ length cs
-  unfolding ran
-  ran-all [] a h = refl
-  ran-all (c ∷ cs) a h = go (λ b q. ran-all cs b q) (f a c) h
-    where
-      go : ((b : A) → ran f b cs .no ≡ 0 → ran f b cs .count ≡ length cs) → (t : Step A) → First c cs a t .no ≡ 0 → First c cs a t .count ≡ suc (length cs)
-      go ih (went b) q = ap suc (ih b q)
-      go ih stopped q = absurd (omega arith)

@@ -1,4 +1,4 @@
--- Each outcome of merge, by one law, and what its part that joins asks. Assumes nothing.
+-- Each outcome of merge, by one law; and what its part that joins asks. Assumes nothing.
 use mathlib.Core.Path.{_≡_, refl, _∙_}
 use mathlib.Core.Bool.{true}
 use mathlib.Core.List.{List, []}

@@ -35,7 +35,14 @@ unfolding scratchFits
 returns c = feed-no _ _ _ _ (c .before .before .before .before .before .scratch-fits .ensures) _ (c .before .before .check .ensures) (λ e. c .if1 .taken (c .before .number .ensures ∙ e))
 
 feed-requires : tie.Need-feed-requires
-feed-requires c κs = record { kind = c .before .before .before .if2 .taken; good = check-ok _ _ _ _ (λ i. c .before .before .before .before .before .before .before .before .before .before .before .before .before .before .slice-known .given i .fits) (passed (c .before .before .before .before .before)); spare = four-spare _ _ _ _ (lent (c .before .before .before .before .before)) (passed (c .before .before .before .before .before)) (c .before .before .before .if2 .taken) }
+feed-requires c κs =
+    let here = c .before .before .before .before .before in
+    let four = c .before .before .before .if2 .taken in
+    record {
+      kind = four;
+      good = check-ok _ _ _ _ (λ i. c .before .before .before .before .before .before .before .before .before .before .before .before .before .before .slice-known .given i .fits) (passed here);
+      spare = four-spare _ _ _ _ (lent here) (passed here) four;
+    }
 
 batch-answer-requires : tie.Need-batch-answer-requires
 batch-answer-requires c κs = four-no _ _ _ _ (lent (c .before .before .before .before .before .before .before .before .before .before .before .before .before)) (passed (c .before .before .before .before .before .before .before .before .before .before .before .before .before)) _ (λ i. c .before .before .before .before .before .before .before .before .before .before .before .before .before .before .before .before .before .before .before .before .before .before .slice-known .given i .fits) (c .before .before .before .before .before .before .before .before .before .before .before .if2 .taken) (c .before .before .before .before .before .before .before .feed .ensures)
@@ -50,7 +57,9 @@ same-length-5 : tie.Need-same-length-5
 same-length-5 c = search needs
 
 returns-2 : tie.Need-returns-2
-returns-2 c = feed-four _ _ _ _ (lent (c .before .before .before .before .before .before .before .before .before .before .before .before .before .before)) (passed (c .before .before .before .before .before .before .before .before .before .before .before .before .before .before)) _ (c .before .before .before .before .before .before .before .before .before .before .before .before .if2 .taken) (c .batch-answer .ensures) (c .before .before .before .before .before .before .before .before .feed .ensures)
+returns-2 c =
+    let here = c .before .before .before .before .before .before .before .before .before .before .before .before .before .before in
+    feed-four _ _ _ _ (lent here) (passed here) _ (c .before .before .before .before .before .before .before .before .before .before .before .before .if2 .taken) (c .batch-answer .ensures) (c .before .before .before .before .before .before .before .before .feed .ensures)
 
 feed-plain-requires : tie.Need-feed-plain-requires
 feed-plain-requires c κs = can-plain _ _ _ _ (lent (c .before .before .before)) (passed (c .before .before .before)) (c .before .if2 .left)
@@ -62,7 +71,9 @@ same-length-7 : tie.Need-same-length-7
 same-length-7 c = search needs
 
 returns-3 : tie.Need-returns-3
-returns-3 c = feed-plain _ _ _ _ (lent (c .before .before .before .before .before .before)) (passed (c .before .before .before .before .before .before)) _ (c .before .before .before .before .if2 .left) (c .before .before .feed-plain .ensures)
+returns-3 c =
+    let here = c .before .before .before .before .before .before in
+    feed-plain _ _ _ _ (lent here) (passed here) _ (c .before .before .before .before .if2 .left) (c .before .before .feed-plain .ensures)
 
 pub feed-spec : {M : Type 1} → statement M
 feed-spec =
