@@ -1,0 +1,41 @@
+-- What a call gives back with its record as words.
+use Prim.Native.Nat.{ℕ}
+use mathlib.Core.List.{List, [], _∷_}
+use lib.Ieee.{Float}
+use Rattle.model.specs.Calls.{Out, Unpacked, Summed}
+use Rattle.model.specs.declared.Sketch.{Sketch}
+use Rattle.c_api.specs.Words.{recordIn, recordOut}
+
+-- number, the record's words, the record that they stand for, count, register bytes, exception area
+pub record Lent : Type 0 where
+  pub no : ℕ
+  pub words : List ℕ
+  pub sketch : Sketch
+  pub count : ℕ
+  pub regs : List ℕ
+  pub aux : List ℕ
+
+-- one, by its parts
+abbrev pub lent : ℕ → List ℕ → ℕ → List ℕ → List ℕ → Lent
+lent n w k r a = record { no = n; words = w; sketch = recordIn w; count = k; regs = r; aux = a }
+
+-- what a call gives: its record, and that put over the words that were handed in
+abbrev pub handed : List ℕ → Out → Lent
+handed w q = record { no = q .no; words = recordOut w (q .sketch); sketch = q .sketch; count = q .count; regs = q .regs; aux = q .aux }
+
+-- what unpack gives back, by its parts
+abbrev pub unpacked : ℕ → List ℕ → Unpacked
+unpacked n l = record { no = n; out = l }
+
+-- what sums gives back: the number, and kxq0 and kxq1 as two doubles
+pub record Two : Type 0 where
+  pub no : ℕ
+  pub sums : List Float
+
+-- one, by its parts
+abbrev pub two : ℕ → List Float → Two
+two n l = record { no = n; sums = l }
+
+-- the two doubles of an answer
+abbrev pub twoOf : Summed → Two
+twoOf q = two (q .no) (q .low ∷ q .high ∷ [])

@@ -1,0 +1,41 @@
+// write and open for C.
+use crate::record::get;
+use crate::record::number;
+use crate::record::put;
+ghost use mathlib.Core.Path.{_≡_};
+ghost use Rattle.model.specs.Image.{wrote, writeOf, openOf};
+ghost use Rattle.c_api.specs.Words.{recordIn};
+ghost use Rattle.c_api.specs.Lent.{lent, handed};
+
+#[no_mangle]
+pub extern "C" fn lp_write(
+    words: &[u32; 5],
+    regs: &[u8],
+    aux: &[u32],
+    out: &mut [u8],
+    len: &mut usize,
+) -> u32
+    ensures { λ r. ⌜ wrote r (now (len .exit)) (now (out .exit)) ≡ writeOf (recordIn (now (words .entry))) (now (regs .entry)) (now (aux .entry)) (now (out .entry)) ⌝ }
+{
+    let written = image::write(get(words), regs, aux, out);
+    *len = written.len;
+    let answer = written.answer;
+    number(answer)
+}
+
+#[no_mangle]
+pub extern "C" fn lp_open(
+    image: &[u8],
+    words: &mut [u32; 5],
+    regs: &mut [u8],
+    aux: &mut [u32],
+    scratch: &mut [u32],
+) -> u32
+    ensures { λ r. ⌜ lent r (now (words .exit)) 0 (now (regs .exit)) (now (aux .exit)) ≡ handed (now (words .entry)) (openOf (now (image .entry)) (now (regs .entry)) (now (aux .entry)) (now (scratch .entry))) ⌝ }
+{
+    let opened = image_open::open(image, regs, aux, scratch);
+    let after = opened.sketch;
+    put(words, after);
+    let answer = opened.answer;
+    number(answer)
+}
