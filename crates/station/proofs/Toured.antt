@@ -1,0 +1,86 @@
+-- What the tour's functions return, from the equations that are their calls' contracts: each is led to the book's table. Assumes nothing.
+use mathlib.Core.Path.{_≡_, ap, _∙_}
+use mathlib.Core.Bool.{not}
+use mathlib.Core.List.{List, [], _∷_}
+use Prim.Native.Nat.{ℕ}
+use lib.Dec.{T}
+use lib.Ieee.{isNan, binary64, toBits}
+use lib.ListN.{replicate}
+use Rattle.model.specs.Calls.{Out, out, feedOf, mergeOf, Summed, sumsOf}
+use Rattle.model.specs.Image.{Written, wrote, writeOf, openOf}
+use Rattle.model.specs.declared.Sketch.{Sketch}
+use Rattle.sums.specs.declared.Sums.{Sums}
+use Rattle.sums.specs.Tally.{summed}
+use Rattle.station.specs.declared.Eight.{Eight}
+use Rattle.station.specs.declared.Four.{Four}
+use Rattle.station.specs.declared.Joined.{Joined}
+use Rattle.station.specs.declared.Refused.{Refused}
+use Rattle.station.specs.declared.Totals.{Totals}
+use Rattle.station.specs.declared.Flat.{Flat}
+use Rattle.station.specs.declared.Opened.{Opened}
+use Rattle.station.specs.Tour.{three-at-five, zero-at-fifteen, eight, four, joined, refused, totals, flat, opened}
+use Rattle.station.proofs.Booked.{fedTo, start8, start4, odd, sums, totalsFrom, booked}
+
+-- ---- which part of an answer each field is
+abbrev eightFrom : Out → Out → Eight
+eightFrom o p = record { started = o .no; fed = p .no; taken = p .count; sketch = p .sketch; regs = p .regs }
+
+abbrev fourFrom : Out → Out → Four
+fourFrom o p = record { started = o .no; fed = p .no; taken = p .count; sketch = p .sketch; regs = p .regs; aux = p .aux }
+
+abbrev joinedFrom : Out → Joined
+joinedFrom o = record { merged = o .no; sketch = o .sketch; regs = o .regs }
+
+abbrev refusedFrom : Out → Refused
+refusedFrom o = record { answer = o .no; taken = o .count; regs = o .regs }
+
+abbrev flatFrom : Written → Flat
+flatFrom w = record { answer = w .no; len = w .len; bytes = w .out }
+
+abbrev openedFrom : Out → Opened
+openedFrom o = record { answer = o .no; sketch = o .sketch; regs = o .regs; aux = o .aux }
+
+-- ---- start, then feed
+module _ {n m x y k : ℕ} {s t : Sketch} {regs aux regs′ aux′ : List ℕ} where
+  pub eights : n ≡ x → m ≡ y → out x s 0 regs aux ≡ start8 → out y t k regs′ aux′ ≡ feedOf s regs aux (replicate 1 5) (three-at-five ∷ [])
+      → _≡_ {A = Eight} (record { started = n; fed = m; taken = k; sketch = t; regs = regs′ }) eight
+  eights p q e f =
+      let g : out y t k regs′ aux′ ≡ out 0 (eight .sketch) 1 (eight .regs) (replicate 1 9) = f ∙ ap (λ (o : Out). fedTo o (replicate 1 5) three-at-five) e ∙ booked .feeds-8 in
+      rw (p, q) (ap (λ (o : Out). eightFrom o (out y t k regs′ aux′)) (e ∙ booked .starts-8) ∙ ap (λ (o : Out). eightFrom (out 0 s 0 regs aux) o) g)
+
+  pub fours : n ≡ x → m ≡ y → out x s 0 regs aux ≡ start4 → out y t k regs′ aux′ ≡ feedOf s regs aux (replicate 8 5) (zero-at-fifteen ∷ [])
+      → _≡_ {A = Four} (record { started = n; fed = m; taken = k; sketch = t; regs = regs′; aux = aux′ }) four
+  fours p q e f =
+      let g : out y t k regs′ aux′ ≡ out 0 (four .sketch) 1 (four .regs) (four .aux) = f ∙ ap (λ (o : Out). fedTo o (replicate 8 5) zero-at-fifteen) e ∙ booked .feeds-4 in
+      rw (p, q) (ap (λ (o : Out). fourFrom o (out y t k regs′ aux′)) (e ∙ booked .starts-4) ∙ ap (λ (o : Out). fourFrom (out 0 s 0 regs aux) o) g)
+
+-- ---- merge, and the refused feed
+module _ {n x : ℕ} {t : Sketch} {regs : List ℕ} where
+  pub joins : {e : Eight} {f : Four} → e ≡ eight → f ≡ four → n ≡ x → out x t 0 regs [] ≡ mergeOf (e .sketch) (e .regs) (f .sketch) (f .regs) (f .aux) → _≡_ {A = Joined} (record { merged = n; sketch = t; regs = regs }) joined
+  joins {e} {f} p q r m =
+      rw r (ap joinedFrom
+      (m ∙ ap (λ (z : Eight). mergeOf (z .sketch) (z .regs) (f .sketch) (f .regs) (f .aux)) p ∙ ap (λ (z : Four). mergeOf (eight .sketch) (eight .regs) (z .sketch) (z .regs) (z .aux)) q ∙ booked .merges))
+
+  pub refusals : {k : ℕ} {aux : List ℕ} {j : Joined} → j ≡ joined → n ≡ x → out x t k regs aux ≡ feedOf odd (j .regs) (replicate 1 9) (replicate 1 5) (three-at-five ∷ []) → _≡_ {A = Refused} (record { answer = n; taken = k; regs = regs }) refused
+  refusals p r f = rw r (ap refusedFrom (f ∙ ap (λ (z : Joined). feedOf odd (z .regs) (replicate 1 9) (replicate 1 5) (three-at-five ∷ [])) p ∙ booked .refuses))
+
+-- ---- sums
+module _ {j : Joined} {s : Sums} (p : j ≡ joined) (e : summed s ≡ sumsOf (j .sketch) (j .regs) (replicate 1 9)) where
+  is-booked : summed s ≡ sums
+  is-booked = e ∙ ap (λ (z : Joined). sumsOf (z .sketch) (z .regs) (replicate 1 9)) p
+
+  pub low-is : T (not (isNan (s .kxq0)))
+  low-is = rw (ap (λ (z : Summed). z .low) is-booked) (booked .low)
+
+  pub high-is : T (not (isNan (s .kxq1)))
+  high-is = rw (ap (λ (z : Summed). z .high) is-booked) (booked .high)
+
+  pub totalled : _≡_ {A = Totals} (record { answer = s .answer; low = toBits binary64 (s .kxq0); high = toBits binary64 (s .kxq1) }) totals
+  totalled = ap totalsFrom is-booked ∙ booked .bits
+
+-- ---- write and open
+pub flats : {n x len : ℕ} {bytes : List ℕ} {f : Four} → f ≡ four → n ≡ x → wrote x len bytes ≡ writeOf (f .sketch) (f .regs) (f .aux) (replicate 52 3) → _≡_ {A = Flat} (record { answer = n; len = len; bytes = bytes }) flat
+flats p r w = rw r (ap flatFrom (w ∙ ap (λ (z : Four). writeOf (z .sketch) (z .regs) (z .aux) (replicate 52 3)) p ∙ booked .writes))
+
+pub openings : {n x : ℕ} {s : Sketch} {regs aux : List ℕ} {i : Flat} → i ≡ flat → n ≡ x → out x s 0 regs aux ≡ openOf (i .bytes) (replicate 8 7) (replicate 8 9) (replicate 8 5) → _≡_ {A = Opened} (record { answer = n; sketch = s; regs = regs; aux = aux }) opened
+openings p r o = rw r (ap openedFrom (o ∙ ap (λ (z : Flat). openOf (z .bytes) (replicate 8 7) (replicate 8 9) (replicate 8 5)) p ∙ booked .opens))

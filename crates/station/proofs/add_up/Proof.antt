@@ -1,0 +1,34 @@
+-- `station::add_up` meets its contract: that of `sums`, computed at the joined sketch. Both doubles are numbers, so they have bits. Assumes nothing.
+use borrow.Author.Needs.{needs}
+use Rattle.station.proofs.Toured.{low-is, high-is, totalled}
+use Rattle.station.proofs.add_up.Statement.{statement}
+use Rattle.station.proofs.add_up.Tie as tie
+
+slice-aggregate-sums : tie.Need-slice-aggregate-sums
+slice-aggregate-sums c = search needs
+
+slice-aggregate-sums-2 : tie.Need-slice-aggregate-sums-2
+slice-aggregate-sums-2 c = search needs
+
+sums-requires : tie.Need-sums-requires
+sums-requires c κs = search needs
+
+float-to-bits-t10 : tie.Need-float-to-bits-t10
+float-to-bits-t10 c = low-is (c .before .before .before .before .before .before .pre) (c .before .sums .ensures)
+
+float-to-bits-t11 : tie.Need-float-to-bits-t11
+float-to-bits-t11 c = high-is (c .before .before .before .before .before .before .before .pre) (c .before .before .sums .ensures)
+
+returns : tie.Need-returns
+returns c = totalled (c .before .before .before .before .before .before .before .pre) (c .before .before .sums .ensures)
+
+pub add-up-spec : {M : Type 1} → statement M
+add-up-spec =
+    tie.close
+    (tie.spec
+    slice-aggregate-sums
+    slice-aggregate-sums-2
+    sums-requires
+    float-to-bits-t10
+    float-to-bits-t11
+    returns)
