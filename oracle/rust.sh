@@ -11,6 +11,6 @@ not_run() { # WHY: ends the test
 }
 
 given=${LINTELPEAR_RUST:-../shared/docs/src}
-# A relative folder is seen from the repository's top, as in build.rs.
+# A relative folder is seen from the repository's top, as in tree.rs.
 rust=$(cd "$(dirname "${BASH_SOURCE[0]}")/.." && cd "$given" 2>/dev/null && pwd) || rust=
 [ -n "$rust" ] || not_run "the Rust is not at $given"

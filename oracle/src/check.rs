@@ -140,7 +140,7 @@ impl fmt::Display for Damaged {
 }
 
 /// One to three bytes changed, mostly where an image has its meaning; at times the end cut.
-fn damage(random: &mut Random, image: &[u8]) -> Vec<u8> {
+pub fn damage(random: &mut Random, image: &[u8]) -> Vec<u8> {
     let mut image = image.to_vec();
     for _ in 0..1 + random.below(3) {
         let at = match random.below(4) {

@@ -32,7 +32,7 @@ impl Random {
     }
 
     /// A coupon for the slot, at times by a number that is that slot only modulo k.
-    fn coupon(&mut self, k: u32, slot: u32, value: u32) -> u32 {
+    pub fn coupon(&mut self, k: u32, slot: u32, value: u32) -> u32 {
         let above = if self.below(4) == 0 { k * self.below((1 << 26) / k) } else { 0 };
         value << 26 | above | slot
     }

@@ -13,8 +13,13 @@ include!(concat!(env!("OUT_DIR"), "/modules.rs"));
 pub mod book;
 pub mod check;
 pub mod examples;
+pub mod images;
+pub mod jobs;
 pub mod model;
+pub mod program;
+pub mod replay;
 pub mod request;
+pub mod samples;
 
 /// Carries the methods that reach private items of `hll`; see the stand-ins' door.rs.
 pub struct Door;

@@ -69,7 +69,7 @@ pub fn num_registers(lg_k: u8) -> usize
 }
 
 // The compiler makes one instruction of it, so that a loop over it becomes vector code.
-fn larger(a: u8, b: u8) -> u8
+pub fn larger(a: u8, b: u8) -> u8
     ensures { λ r. ⌜ r ≡ max a b ⌝ }
 {
     if a < b { b } else { a }

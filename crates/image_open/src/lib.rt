@@ -10,24 +10,12 @@ ghost use Rattle.model.specs.Table.{baseFor, made};
 ghost use Rattle.model.specs.Sketch.{areaOf};
 ghost use Rattle.model.specs.Calls.{out};
 ghost use Rattle.model.specs.Image.{taken, entriesIn, openOf};
-ghost use Rattle.aux_map.specs.Grow.{SameLength};
 ghost use Rattle.image_open.specs.Opened.{Judged};
 
 // The answer, and the record of the sketch that the image is of: zeros where it is refused.
 pub struct Made {
     pub answer: Answer,
     pub sketch: Sketch,
-}
-
-fn copy(from: &[u8], to: &mut [u8])
-    requires { ⌜ SameLength (now from) (now to) ⌝ }
-    ensures { λ _. ⌜ now (to .exit) ≡ now (from .entry) ⌝ }
-{
-    let mut i = 0;
-    while i < from.len() {
-        to[i] = from[i];
-        i += 1;
-    }
 }
 
 // The exception area: for kind 4 the table of the image's entries, inserted in their order, and zeros. They go through scratch's end, as
@@ -66,7 +54,7 @@ pub fn open(image: &[u8], regs: &mut [u8], aux: &mut [u32], scratch: &mut [u32])
     }
     let s = judge::sketch_in(image);
     let end = 40 + regs.len();
-    copy(&image[40..end], regs);
+    packed::eight::copy(&image[40..end], regs);
     lay(image, s, aux, scratch);
     Made {
         answer: Answer::Ok,

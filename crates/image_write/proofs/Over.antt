@@ -9,7 +9,7 @@ use lib.Seq.{paste, take-length, drop-length, length-take-le, take-at, drop-at, 
 use borrow.Rule.Slice.PartMut.{putMid}
 use Rattle.image_write.specs.Parts.{over}
 
--- what a loop of stores leaves
+-- what putting bytes leaves
 pub over-pasted : (d : List ℕ) (at : ℕ) (s : List ℕ) → paste d at s (length s) ≡ over d at s
 unfolding over
 over-pasted d at s = append-assoc (take at d) (take (length s) s) (drop (at + length s) d) ∙ ap (λ (l : List ℕ). take at d ++ (l ++ drop (at + length s) d)) (take-length s)

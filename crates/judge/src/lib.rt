@@ -101,7 +101,7 @@ fn starts(s: &[u8], p: &[u8]) -> bool
 }
 
 // SHORT of the header, HEADER.
-fn front(image: &[u8]) -> Answer
+pub fn front(image: &[u8]) -> Answer
     ensures { λ r. ⌜ numberOf r ≡ frontNo (now (image .entry)) ⌝ }
 {
     if image.len() < 40 {
@@ -114,7 +114,7 @@ fn front(image: &[u8]) -> Answer
     Answer::Ok
 }
 
-fn is_kind(kind: u8) -> bool
+pub fn is_kind(kind: u8) -> bool
     ensures { λ r. ⌜ r ≡ isKind kind ⌝ }
 {
     if kind == 4 {

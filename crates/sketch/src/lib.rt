@@ -182,23 +182,12 @@ fn is_count(len: usize, lg_k: u8) -> bool
     len == 1usize << lg_k
 }
 
-fn copy(from: &[u8], to: &mut [u8])
-    requires { ⌜ length (now to) ≡ length (now from) ⌝ }
-    ensures { λ _. ⌜ now (to .exit) ≡ now (from .entry) ⌝ }
-{
-    let mut i = 0;
-    while i < from.len() {
-        to[i] = from[i];
-        i += 1;
-    }
-}
-
 fn unpack_good(s: Sketch, regs: &[u8], aux: &[u32], out: &mut [u8])
     requires { ⌜ Unpackable s (now regs) (now aux) (length (now out)) ⌝ }
     ensures { λ _. ⌜ now (out .exit) ≡ registers s (now (regs .entry)) (now (aux .entry)) ⌝ }
 {
     if s.kind == 8 {
-        copy(regs, out);
+        packed::eight::copy(regs, out);
         return;
     }
     if s.kind == 6 {

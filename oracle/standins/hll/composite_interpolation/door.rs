@@ -32,12 +32,35 @@ impl Door {
 
     /// Each register as the sketch itself reads it; none if it holds a list or a set.
     pub fn registers(sketch: &HllSketch) -> Option<Vec<u8>> {
-        let slots = 0..1u32 << sketch.lg_config_k();
+        let mut registers = vec![0; 1 << sketch.lg_config_k()];
+        Self::unpack(sketch, &mut registers).then_some(registers)
+    }
+
+    /// The same into a buffer of as many bytes; false if there are none.
+    pub fn unpack(sketch: &HllSketch, out: &mut [u8]) -> bool {
         match sketch.mode() {
-            Mode::Array4(array) => Some(slots.map(|slot| array.get(slot)).collect()),
-            Mode::Array6(array) => Some(slots.map(|slot| array.get(slot)).collect()),
-            Mode::Array8(array) => Some(array.values().to_vec()),
-            Mode::List { .. } | Mode::Set { .. } => None,
+            Mode::Array4(array) => {
+                (0..).zip(out).for_each(|(slot, byte)| *byte = array.get(slot));
+            }
+            Mode::Array6(array) => {
+                (0..).zip(out).for_each(|(slot, byte)| *byte = array.get(slot));
+            }
+            Mode::Array8(array) => out.copy_from_slice(array.values()),
+            Mode::List { .. } | Mode::Set { .. } => return false,
+        }
+        true
+    }
+
+    /// Each coupon by the kind's own `update`. `update_with_coupon` would look for the kind at every one.
+    pub fn feed(sketch: &mut HllSketch, coupons: &[u32]) {
+        let coupons = coupons.iter().map(|word| Coupon(*word));
+        match sketch.mode_mut() {
+            Mode::Array4(array) => coupons.for_each(|coupon| array.update(coupon)),
+            Mode::Array6(array) => coupons.for_each(|coupon| array.update(coupon)),
+            Mode::Array8(array) => coupons.for_each(|coupon| array.update(coupon)),
+            Mode::List { .. } | Mode::Set { .. } => {
+                coupons.for_each(|coupon| sketch.update_with_coupon(coupon))
+            }
         }
     }
 

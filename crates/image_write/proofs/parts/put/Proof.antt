@@ -1,75 +1,18 @@
--- `image_write::parts::put` meets its contract: the first i bytes stand over the buffer. Assumes nothing.
-use Prim.Native.Nat.{ℕ, _≤_, _-_, _+_, zero-le}
-use native.Mathlib.Numerals.{add-one}
-use native.Mathlib.Omega.{arith}
-use mathlib.Core.Path.{_≡_, refl, sym, ap, _∙_}
-use mathlib.Core.List.{List}
-use lib.ListN.{length, set, getD}
-use lib.Seq.{paste, paste-zero, paste-suc}
+-- `image_write::parts::put` meets its contract. Assumes nothing.
+use mathlib.Core.Path.{_≡_, _∙_}
 use borrow.Author.Needs.{needs}
 use Rattle.image_write.proofs.Over.{over-pasted}
 use Rattle.image_write.proofs.parts.put.Statement.{statement}
 use Rattle.image_write.proofs.parts.put.Tie as tie
 
-abbrev Inv-loop : tie.InvT-loop
-Inv-loop out₀ at bytes i₀ out i = (i ≤ length bytes) × (length out ≡ length out₀) × (out ≡ paste out₀ at bytes i)
+put-requires : tie.Need-put-requires
+put-requires c κs = search needs
 
-abbrev μ-loop : tie.MeasureT-loop
-μ-loop out₀ at bytes i₀ out i = length bytes - i
-
-loop-holds : tie.Need-loop-holds Inv-loop μ-loop
-loop-holds c = (zero-le, refl, paste-zero (c .args .out .now) (c .args .at) (c .args .bytes .now))
-
-shared-slice-read-out : tie.Need-shared-slice-read-out Inv-loop μ-loop
-shared-slice-read-out c = search needs
-
-add-out : tie.Need-add-out Inv-loop μ-loop
-add-out c = search needs
-
-slice-write-out : tie.Need-slice-write-out Inv-loop μ-loop
-slice-write-out c = search needs
-
-add-i : tie.Need-add-i Inv-loop μ-loop
-add-i c = search needs
-
-loop-less : tie.Need-loop-less Inv-loop μ-loop
-loop-less c = search needs
-
-loop-again : tie.Need-loop-again Inv-loop μ-loop
-loop-again c =
-    let l = c .before .before in
-    let d = l .before .args .out .now in
-    let at = l .before .args .at in
-    let s = l .before .args .bytes .now in
-    let i = l .loop .i in (
-      search needs,
-      search needs,
-      ap (λ (x : List ℕ). set x (at + i) (getD s i 0)) (l .loop .inv .2) ∙ paste-suc d at s i 0 (omega arith) (omega arith) ∙ ap (paste d at s) (sym (add-one i)),
-    )
-
-same-length : tie.Need-same-length Inv-loop μ-loop
+same-length : tie.Need-same-length
 same-length c = search needs
 
-returns : tie.Need-returns Inv-loop μ-loop
-returns c =
-    let l = c .before in
-    let d = l .before .args .out .now in
-    let s = l .before .args .bytes .now in
-    let past : l .loop .i ≡ length s = omega arith in
-    l .loop .inv .2 ∙ ap (paste d (l .before .args .at) s) past ∙ over-pasted d (l .before .args .at) s
+returns : tie.Need-returns
+returns c = c .before .before .put .ensures ∙ over-pasted _ _ _
 
 pub put-spec : {M : Type 1} → statement M
-put-spec =
-    tie.close
-    (tie.spec
-    Inv-loop
-    μ-loop
-    loop-holds
-    shared-slice-read-out
-    add-out
-    slice-write-out
-    add-i
-    loop-less
-    loop-again
-    same-length
-    returns)
+put-spec = tie.close (tie.spec put-requires same-length returns)

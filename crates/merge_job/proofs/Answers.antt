@@ -1,0 +1,164 @@
+-- The numbers that a file can get: NO_ROOM is none of them, nor is what speaks of the target, of lent memory or of the job. Assumes nothing.
+use mathlib.Core.Path.{_≡_, refl, subst}
+use mathlib.Core.Bool.{Bool, true, false}
+use mathlib.Core.List.{List, [], _∷_}
+use Prim.Native.Nat.{ℕ, suc, _+_, _-_, _*_, _^_, _≤_}
+use native.Mathlib.Nat.{le-refl}
+use native.Mathlib.Omega.{arith}
+use lib.Dec.{eqb, leb}
+use lib.ListN.{length, getD, length-replicate}
+use lib.Pow.{pow-mono}
+use borrow.Author.Tests.{eqb-true}
+use Rattle.model.specs.Pick.{pick, both, all, first, firstOf}
+use Rattle.model.specs.Table.{baseFor, sizeFor, tableSize}
+use Rattle.model.specs.Sketch.{isKind, Good}
+use Rattle.model.specs.Check.{lgkNo}
+use Rattle.model.specs.Calls.{Out, mergeOf}
+use Rattle.model.specs.Image.{sketchIn}
+use Rattle.model.specs.Claims.{Unless, refused, passed, SketchLines}
+use Rattle.model.specs.declared.Sketch.{Sketch}
+use Rattle.model.proofs.FirstLaws.{true-not-false}
+use Rattle.model.proofs.Tells.{tells-all, tells-le}
+use Rattle.model.proofs.Shape.{size-shorter}
+use Rattle.model.proofs.Demand1.{kind-tells}
+use Rattle.model.proofs.Kept.{good-bytes}
+use Rattle.model.proofs.Claims.{demand-1, opens-good}
+use Rattle.judge.specs.Ladder.{frontNo}
+use Rattle.merge_job.specs.Merge.{fileNo, openedOf, joinOf, takeOf, File, unread, came, fileOf, Merging, mergeAll}
+use Rattle.merge_job.specs.Promised.{Merged, Target}
+use Rattle.merge_job.proofs.Filed.{Fits, fits}
+use Rattle.merge_job.proofs.Keeps.{take-keeps}
+
+-- the numbers that a file can get
+abbrev pub answers : List ℕ
+answers = 0 ∷ 2 ∷ 5 ∷ 7 ∷ 8 ∷ 9 ∷ 10 ∷ 11 ∷ 12 ∷ 13 ∷ 14 ∷ 15 ∷ 17 ∷ 19 ∷ 20 ∷ []
+
+-- a number stands in a list
+unfoldable pub among : ℕ → List ℕ → Bool
+among n [] = false
+among n (m ∷ ms) = pick (eqb n m) true (among n ms)
+
+-- it is one of them
+pub record Answers (n : ℕ) : Type 0 where
+  pub is : among n answers ≡ true
+
+-- no other number is
+pub none-other : {n : ℕ} → Answers n → (m : ℕ) → among m answers ≡ false → n ≡ m → ⊥
+none-other a m x e = true-not-false (rw e at (a .is)) x
+
+-- ---- rungs and lines
+-- a number, and others where it is 0
+first-answers : (n : ℕ) (ns : List ℕ) → Answers n → Answers (firstOf ns) → Answers (firstOf (n ∷ ns))
+unfolding firstOf
+first-answers n ns m r = go (eqb n 0)
+  where
+    go : (b : Bool) → Answers (pick b (firstOf ns) n)
+    go true = r
+    go false = m
+
+last-answers : Answers (firstOf [])
+unfolding firstOf among
+last-answers = record { is = refl }
+
+-- a rung
+rung : (b : Bool) (n : ℕ) (ns : List ℕ) → among n answers ≡ true → Answers (firstOf ns) → Answers (firstOf (pick b 0 n ∷ ns))
+unfolding among
+rung true n ns m r = first-answers 0 ns (record { is = refl }) r
+rung false n ns m r = first-answers n ns (record { is = m }) r
+
+-- a line of the table
+line : (n : ℕ) {a : ℕ} {Q : Type 0} {next : ℕ → Type 0} → among n answers ≡ true → (Q → next a → Answers a) → Unless n Q next a → Answers a
+line n m f (refused h e) = record { is = rw e m }
+line n m f (passed q r) = f q r
+
+-- one whose question is answered
+passes : {n a : ℕ} {Q : Type 0} {next : ℕ → Type 0} → Q → Unless n Q next a → next a
+passes q (refused h e) = absurd (h q)
+passes q (passed p r) = r
+
+-- ---- what is looked at before an image is opened
+unopened-answers : (l : List ℕ) → Answers (fileNo l)
+unfolding fileNo frontNo lgkNo among
+unopened-answers l =
+    let s = sketchIn l in
+    rung (leb (length l) 40000) 17 _ refl
+    (first-answers _ _ (rung (leb 40 (length l)) 7 _ refl (rung (both (eqb (getD l 0 0) 10) (both (eqb (getD l 1 0) 1) (eqb (getD l 2 0) 7))) 8 _ refl last-answers))
+    (rung (isKind (s .kind)) 9 _ refl (rung (both (leb 4 (s .«lg_k»)) (leb (s .«lg_k») 21)) 2 _ refl (rung (leb (s .«lg_k») 12) 20 _ refl last-answers))))
+
+-- ---- opening
+-- a table for all registers has at most two words for each
+pub twice-room : (lgk : ℕ) → 4 ≤ lgk → lgk ≤ 21 → tableSize (baseFor lgk) (2 ^ lgk) ≤ 2 * 2 ^ lgk
+unfolding all tableSize sizeFor baseFor first
+twice-room lgk l h =
+    let e : 4 + (lgk - 4) ≡ lgk = omega arith in
+    let test = tells-all (λ i. leb (tableSize (baseFor (4 + i)) (2 ^ (4 + i))) (2 * 2 ^ (4 + i))) (λ i. tableSize (baseFor (4 + i)) (2 ^ (4 + i)) ≤ 2 * 2 ^ (4 + i)) 18 (λ i. tells-le _ _) in
+    subst (λ (n : ℕ). tableSize (baseFor n) (2 ^ n) ≤ 2 * 2 ^ n) e (test .0 refl (lgk - 4) (omega arith))
+
+-- so 8,192 words are room for the exceptions of an image that is not LARGE
+room : (lgk count : ℕ) → 4 ≤ lgk → lgk ≤ 12 → count ≤ 2 ^ lgk → tableSize (baseFor lgk) count ≤ 8192
+room lgk count l h c =
+    let most : 2 ^ lgk ≤ 2 ^ 12 = pow-mono h in
+    omega (arith, size-shorter (baseFor lgk) count (2 ^ lgk) c, twice-room lgk l (omega arith))
+
+-- what is lent is of the right size, and room enough
+opened-answers : (l : List ℕ) → Fits l → Answers (openedOf l .no)
+unfolding openedOf among
+opened-answers l f =
+    let s = sketchIn l in
+    line 7 refl (λ p. line 8 refl (λ p. line 9 refl (λ p. line 2 refl (λ p u.
+    line 10 refl (λ c. line 11 refl (λ p. line 7 refl (λ p u.
+    line 12 refl (λ p. line 13 refl (λ p. line 14 refl (λ p. line 15 refl (λ p e. record { is = rw e }))))
+    (passes (rw length-replicate (room (s .«lg_k») (s .«aux_count») (f .low) (f .small) (c .1 .0))) u))))
+    (passes (λ four. le-refl _) (passes (length-replicate _ 0) u)))))) (demand-1 .open-lines l _ _ _)
+
+-- ---- merging
+-- the lines of a sketch in good order
+good-passes : {next : ℕ → Type 0} {a : ℕ} (s : Sketch) (regs aux : List ℕ) → Good s regs aux → SketchLines (Unit {0}) s regs aux next a → next a
+good-passes s regs aux g u =
+    let h = g .shaped in
+    passes g (passes tt (passes (h .long) (passes (h .low, h .high) (passes (kind-tells (s .kind) .0 (h .is-kind)) u))))
+
+-- what is done where a number is 0, or given back where it is not
+then-answers : {A : Type 0} (number : A → ℕ) (n : ℕ) (done back : A) → Answers (number back) → (n ≡ 0 → Answers (number done)) → Answers (number (pick (eqb n 0) done back))
+then-answers number n done back m f = go (eqb n 0) refl
+  where
+    go : (b : Bool) → eqb n 0 ≡ b → Answers (number (pick b done back))
+    go true q = f (eqb-true n 0 q)
+    go false q = m
+
+module _ (lgk : ℕ) (t : Sketch) (tregs : List ℕ) (g : Target lgk t tregs) where
+  merge-answers : (s : Sketch) (sregs saux : List ℕ) → Good s sregs saux → Answers (mergeOf t tregs s sregs saux .no)
+  unfolding among
+  merge-answers s sregs saux h =
+      line 5 refl (λ p e. record { is = rw e })
+      (good-passes s sregs saux h (good-passes t tregs [] (g .good) (passes (g .eight) (demand-1 .merge-lines t tregs s sregs saux (good-bytes (g .good)) (good-bytes h)))))
+
+  -- ---- a file
+  pub file-answers : (f : File) → Answers (fileOf t tregs f .no)
+  unfolding takeOf joinOf openedOf among
+  file-answers unread = record { is = refl }
+  file-answers (came l b) =
+      then-answers (λ (o : Out). o .no) (fileNo l) (joinOf t tregs l) _ (unopened-answers l) (λ z.
+      then-answers (λ (o : Out). o .no) (openedOf l .no) _ _ (opened-answers l (fits l z)) (λ y.
+      merge-answers _ _ _ (opens-good l _ _ _ b y)))
+
+  -- NO_ROOM can't occur
+  pub never-no-room : (f : File) → fileOf t tregs f .no ≡ 6 → ⊥
+  unfolding among
+  never-no-room f = none-other (file-answers f) 6 refl
+
+  file-keeps : (f : File) → fileOf t tregs f .no ≡ 0 → let o = fileOf t tregs f in Target lgk (o .sketch) (o .regs)
+  file-keeps unread e = absurd (omega arith)
+  file-keeps (came l b) e = take-keeps lgk t tregs g l b e .target
+
+-- ---- all of them
+pub all-answers : (lgk i : ℕ) (t : Sketch) (tregs : List ℕ) (fs : List File) → Target lgk t tregs → Answers (mergeAll i t tregs fs .no)
+unfolding mergeAll among
+all-answers lgk i t tregs [] g = record { is = refl }
+all-answers lgk i t tregs (f ∷ fs) g =
+    then-answers (λ (m : Merging). m .no) (fileOf t tregs f .no) _ _ (file-answers lgk t tregs g f) (λ z.
+    all-answers lgk (suc i) _ _ fs (file-keeps lgk t tregs g f z))
+
+-- and what a run comes to
+pub merged-answers : (lgk files : ℕ) (t : Sketch) (tregs : List ℕ) (m : Merging) → Target lgk t tregs → Merged files t tregs m → Answers (m .no)
+merged-answers lgk files t tregs m g h = rw (h .is) (all-answers lgk 0 t tregs (h .read) g)

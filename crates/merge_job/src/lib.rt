@@ -1,0 +1,208 @@
+// The merge program of document 01 as a library: one run reads a job, merges its images and writes the image of all.
+use job::Places;
+use model::Sketch;
+ghost use mathlib.Core.Path.{_≡_};
+ghost use mathlib.Core.List.{[]};
+ghost use Rattle.model.specs.Calls.{out};
+ghost use Rattle.merge_job.specs.Merge.{fileNo, joinOf, takeOf, merging};
+ghost use Rattle.merge_job.specs.Promised.{Took, Merged, Lists, Lent, Small, Names, Asked, Finished, Reported};
+
+// The number of a refusal, or 0, and the target's record.
+pub struct Taken {
+    pub no: u8,
+    pub sketch: Sketch,
+}
+
+// What is refused before an image is opened.
+fn file_no(image: &[u8]) -> u8
+    ensures { λ r. ⌜ r ≡ fileNo (now (image .entry)) ⌝ }
+{
+    if 40000 < image.len() {
+        return 17;
+    }
+    let front = judge::front(image);
+    let no = model::number(front);
+    if no != 0 {
+        return no;
+    }
+    let s = judge::sketch_in(image);
+    let known = judge::is_kind(s.kind);
+    if !known {
+        return 9;
+    }
+    if s.lg_k < 4 {
+        return 2;
+    }
+    if 21 < s.lg_k {
+        return 2;
+    }
+    if 12 < s.lg_k {
+        return 20;
+    }
+    0
+}
+
+fn join(
+    target: Sketch,
+    tregs: &mut [u8],
+    image: &[u8],
+    regs: &mut [u8],
+    aux: &mut [u32],
+    scratch: &mut [u32],
+) -> Taken
+    requires { ⌜ Lent (now image) (now regs) (now aux) (now scratch) ⌝ }
+    ensures { λ r. ⌜ out (r .no) (r .sketch) 0 (now (tregs .exit)) [] ≡ joinOf target (now (tregs .entry)) (now (image .entry)) ⌝ }
+{
+    let made = image_open::open(image, regs, aux, scratch);
+    let opened = made.answer;
+    let no = model::number(opened);
+    if no != 0 {
+        return Taken { no, sketch: target };
+    }
+    let source = made.sketch;
+    let merged = sketch::merge(target, tregs, source, regs, aux);
+    let answer = merged.answer;
+    let after = merged.sketch;
+    Taken {
+        no: model::number(answer),
+        sketch: after,
+    }
+}
+
+// Opens an image and merges it into the target. The memory is large enough for any that is not LARGE, so NO_ROOM can't occur.
+pub fn take(target: Sketch, tregs: &mut [u8], image: &[u8]) -> Taken
+    ensures { λ r. ⌜ out (r .no) (r .sketch) 0 (now (tregs .exit)) [] ≡ takeOf target (now (tregs .entry)) (now (image .entry)) ⌝ }
+{
+    let no = file_no(image);
+    if no != 0 {
+        return Taken { no, sketch: target };
+    }
+    let s = judge::sketch_in(image);
+    let n = judge::bytes_of(s.kind, s.lg_k);
+    let mut regs = [0u8; 4096];
+    let mut aux = [0u32; 8192];
+    let mut scratch = [0u32; 8192];
+    join(target, tregs, image, &mut regs[..n], &mut aux, &mut scratch)
+}
+
+// What came of a file.
+fn take_came(target: Sketch, tregs: &mut [u8], image: &[u8]) -> Taken
+    ensures { λ r. ⌜ Took target (now (tregs .entry)) (out (r .no) (r .sketch) 0 (now (tregs .exit)) []) ⌝ }
+{
+    take(target, tregs, image)
+}
+
+// The file at a path. Only the bytes that came are passed on: behind them the buffer has zeros, which are not the image's.
+fn take_file(target: Sketch, tregs: &mut [u8], path: &[u8]) -> Taken
+    ensures { λ r. ⌜ Took target (now (tregs .entry)) (out (r .no) (r .sketch) 0 (now (tregs .exit)) []) ⌝ }
+{
+    let mut image = [0u8; 40001];
+    let got = files::load(path, &mut image);
+    if got.failed {
+        return Taken {
+            no: 19,
+            sketch: target,
+        };
+    }
+    let n = got.n;
+    take_came(target, tregs, &image[..n])
+}
+
+// A refusal's number and the position of its file from 1, or 0 and the number of files; and the target's record.
+pub struct Ran {
+    pub no: u8,
+    pub file: usize,
+    pub sketch: Sketch,
+}
+
+// The files of the `in=` lines from a place on, in turn.
+fn merge_all(target: Sketch, tregs: &mut [u8], job: &[u8], first: usize, files: usize) -> Ran
+    requires { ⌜ Lists (now job) first files ⌝ }
+    ensures { λ r. ⌜ Merged files target (now (tregs .entry)) (merging (r .no) (r .file) (r .sketch) (now (tregs .exit))) ⌝ }
+{
+    let mut sketch = target;
+    let mut at = first;
+    let mut done = 0;
+    while done < files {
+        let n = job::path_in(job, at, b"in=");
+        let from = at + 3;
+        let end = from + n;
+        let taken = take_file(sketch, tregs, &job[from..end]);
+        sketch = taken.sketch;
+        if taken.no != 0 {
+            return Ran {
+                no: taken.no,
+                file: done + 1,
+                sketch,
+            };
+        }
+        at = end + 1;
+        done += 1;
+    }
+    Ran {
+        no: 0,
+        file: done,
+        sketch,
+    }
+}
+
+// The image of all, which always fits into 40 bytes and one for each register, to the path of the `out=` line; and the report.
+fn finish(sketch: Sketch, regs: &[u8], job: &[u8], places: Places, out: &mut [u8; 160]) -> usize
+    requires { ⌜ Small sketch (now regs) × Names (now job) (places .last) ⌝ }
+    ensures { λ r. ⌜ Finished (places .files) (places .«lg_k») (now (regs .entry)) (now (out .exit)) r ⌝ }
+{
+    let mut image = [0u8; 4136];
+    let written = image::write(sketch, regs, &[], &mut image);
+    let len = written.len;
+    let n = job::path_in(job, places.last, b"out=");
+    let from = places.last + 4;
+    let end = from + n;
+    let put = files::replace(&job[from..end], &image[..len]);
+    if !put {
+        return report::refused(19, 0, out);
+    }
+    report::merged(places.files, places.lg_k, regs, out)
+}
+
+// A job that is one, in registers of its size.
+fn run_in(regs: &mut [u8], job: &[u8], places: Places, out: &mut [u8; 160]) -> usize
+    requires { ⌜ Asked (now job) places (now regs) ⌝ }
+    ensures { λ r. ⌜ Reported (now (job .entry)) (now (out .exit)) r ⌝ }
+{
+    let made = sketch::start(8, places.lg_k, regs, &mut []);
+    let empty = made.sketch;
+    let ran = merge_all(empty, regs, job, places.first, places.files);
+    if ran.no != 0 {
+        return report::refused(ran.no, ran.file, out);
+    }
+    let all = ran.sketch;
+    finish(all, regs, job, places, out)
+}
+
+// The report of a text as a job.
+pub fn run_job(job: &[u8], out: &mut [u8; 160]) -> usize
+    ensures { λ r. ⌜ Reported (now (job .entry)) (now (out .exit)) r ⌝ }
+{
+    let places = job::parse(job);
+    if places.lg_k == 0 {
+        return report::refused(18, 0, out);
+    }
+    let mut regs = [0u8; 4096];
+    let k = judge::bytes_of(8, places.lg_k);
+    run_in(&mut regs[..k], job, places, out)
+}
+
+// One run: the job comes from one descriptor, and the report goes to the other. A job that fills the buffer is too long to be one.
+pub fn run(from: i32, to: i32) {
+    let mut job = [0u8; 4097];
+    let mut out = [0u8; 160];
+    let got = files::read_all(from, &mut job);
+    if got.failed {
+        let n = report::refused(19, 0, &mut out);
+        io::write_all(to, &out[..n]);
+        return;
+    }
+    let len = got.n;
+    let n = run_job(&job[..len], &mut out);
+    io::write_all(to, &out[..n]);
+}

@@ -1,0 +1,4 @@
+pub mod Largest
+pub mod Names
+pub mod Lines
+pub mod Examples

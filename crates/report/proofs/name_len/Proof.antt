@@ -1,0 +1,49 @@
+-- `report::name_len` meets its contract: no space stands before n. Assumes nothing.
+use mathlib.Core.Path.{refl}
+use Prim.Native.Nat.{_-_, _≤_}
+use native.Mathlib.Omega.{arith}
+use borrow.Author.Needs.{needs}
+use Rattle.report.proofs.Names.{Passed, trim-on, trim-off, trim-end}
+use Rattle.report.proofs.name_len.Statement.{statement}
+use Rattle.report.proofs.name_len.Tie as tie
+
+abbrev Inv-loop : tie.InvT-loop
+Inv-loop name n₀ n = (n ≤ 7) × Passed name n
+
+abbrev μ-loop : tie.MeasureT-loop
+μ-loop name n₀ n = 7 - n
+
+loop-holds : tie.Need-loop-holds Inv-loop μ-loop
+loop-holds c = (search needs, refl)
+
+array-read-if1 : tie.Need-array-read-if1 Inv-loop μ-loop
+array-read-if1 c = search needs
+
+returns : tie.Need-returns Inv-loop μ-loop
+returns c = trim-off _ _ (c .before .before .loop .inv .1) (search needs) (c .if1 .taken)
+
+add-n : tie.Need-add-n Inv-loop μ-loop
+add-n c = search needs
+
+loop-less : tie.Need-loop-less Inv-loop μ-loop
+loop-less c = search needs
+
+loop-again : tie.Need-loop-again Inv-loop μ-loop
+loop-again c = (omega arith, trim-on _ _ (c .before .before .loop .inv .1) (search needs) (c .if1 .left))
+
+returns-2 : tie.Need-returns-2 Inv-loop μ-loop
+returns-2 c = trim-end _ _ (c .before .loop .inv .1) (search needs)
+
+pub name-len-spec : {M : Type 1} → statement M
+name-len-spec =
+    tie.close
+    (tie.spec
+    Inv-loop
+    μ-loop
+    loop-holds
+    array-read-if1
+    returns
+    add-n
+    loop-less
+    loop-again
+    returns-2)

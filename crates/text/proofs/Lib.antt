@@ -1,0 +1,4 @@
+pub mod Standing
+pub mod Decimal
+pub mod Writing
+pub mod Examples

@@ -1,0 +1,332 @@
+//! The jobs that crates/merge_jobs plays and what it must print, and crates/merge's one job. Each
+//! job stands beside the answer that it is for; a job that comes to another stops the making.
+
+use crate::images::{bad, good};
+use crate::program::{Disk, NAMES, Outcome, run};
+use std::collections::BTreeMap;
+use std::fs;
+use std::io;
+use std::path::Path;
+
+/// A job's text, in which `N.out` is its own output and each char one byte; its answer, with the
+/// position of the file; what N.out holds before it.
+struct Case {
+    text: String,
+    answer: String,
+    before: Option<Vec<u8>>,
+}
+
+struct Cases(Vec<Case>);
+
+impl Cases {
+    /// The number that the next case will have.
+    fn next(&self) -> usize {
+        self.0.len()
+    }
+
+    /// A refusal of an image or of the job leaves what is there, so there has to be something. A
+    /// merge finds no file, and neither does a job whose output is elsewhere and fails.
+    fn add(&mut self, answer: &str, text: String) {
+        let n = self.next();
+        let stays = !answer.starts_with("OK") && answer != "IO 0";
+        let before = stays.then(|| format!("what stood here before job {n}\n").into_bytes());
+        let text = text.replace("N.out", &format!("{n}.out"));
+        self.0.push(Case { text, answer: answer.into(), before });
+    }
+
+    /// The same with a file at N.out before it.
+    fn over(&mut self, before: &[u8], answer: &str, text: String) {
+        self.add(answer, text);
+        self.0.last_mut().unwrap().before = Some(before.to_vec());
+    }
+
+    /// A refused file at a position, with good files before it.
+    fn refused(&mut self, name: &str, position: usize, file: &str) {
+        let before = &["three", "risen", "six"][..position - 1];
+        let ins = [before, &[file]].concat().join(" ");
+        self.add(&format!("{name} {position}"), job(4, &ins));
+    }
+
+    fn no_job(&mut self, text: &str) {
+        self.add("JOB 0", text.into());
+    }
+}
+
+/// The text of a good job; the inputs are parted by spaces.
+fn job(lg_k: u8, ins: &str) -> String {
+    let ins: String = ins.split(' ').map(|path| format!("in={path}\n")).collect();
+    format!("lgk={lg_k}\n{ins}out=N.out\n")
+}
+
+/// The same file by a path of so many bytes.
+fn longer(path: &str, len: usize) -> String {
+    let more = len - path.len();
+    format!("{}{}{path}", "./".repeat(more / 2), "/".repeat(more % 2))
+}
+
+/// A job of so many bytes in which nothing but that could be wrong.
+fn of_length(len: usize, n: usize) -> String {
+    let (head, tail) = ("lgk=4\n", format!("out={n}.out\n"));
+    let mut room = len - head.len() - tail.len();
+    let mut ins = String::new();
+    while room > 0 {
+        let line = room.min(204);
+        ins += &format!("in={}\n", longer("three", line - 4));
+        room -= line;
+    }
+    format!("{head}{ins}{tail}")
+}
+
+fn merges(cases: &mut Cases, images: &Disk) {
+    // Document 01's example.
+    cases.add("OK", job(4, EXAMPLE_INS));
+    // One image; 64, of which the last one alone has its register; one twice, which changes nothing.
+    cases.add("OK", job(4, "six"));
+    let many = ["three", "four", "six", "aux", "finer-5", "empty", "empty-6"];
+    let many: Vec<&str> = many.into_iter().cycle().take(63).chain(["last"]).collect();
+    cases.add("OK", job(4, &many.join(" ")));
+    cases.add("OK", job(4, "edges-8 edges-8"));
+    // Nothing seen. Values on all edges, in the other kinds too: the same answer.
+    cases.add("OK", job(4, "empty-4 empty-6 empty"));
+    cases.add("OK", job(4, "edges-4"));
+    cases.add("OK", job(4, "edges-6"));
+    // All kinds, in two orders.
+    cases.add("OK", job(4, "aux six risen three last"));
+    cases.add("OK", job(4, "last three risen six aux"));
+    // Kind 4: exceptions, told in four ways; cur_min 2 and 63.
+    cases.add("OK", job(4, "aux"));
+    cases.add("OK", job(4, "aux-second"));
+    cases.add("OK", job(4, "aux-modulo"));
+    cases.add("OK", job(4, "aux-valueless"));
+    cases.add("OK", job(4, "risen"));
+    cases.add("OK", job(4, "top"));
+    // Bytes that are not read: of the header, and behind the image up to the 40,000th. A shorter file
+    // behind a longer one does not see its bytes.
+    cases.add("OK", job(4, "not-read second-none"));
+    cases.add("OK", job(4, "tail-4 tail-6 tail-8"));
+    cases.add("OK", job(4, "exact six"));
+    // Finer sources: several slots meet in one; an exception is looked up by its own slot.
+    cases.add("OK", job(4, "finer-5"));
+    cases.add("OK", job(4, "finer-5-aux three"));
+    cases.add("OK", job(5, "finer-5 finer-5-aux"));
+    cases.add("OK", job(4, "wide-4 wide-6 wide-8 edges-6"));
+    cases.add("OK", job(10, "wide-6 wide-11 wide-8"));
+    // The largest target and the largest table, in both forms.
+    cases.add("OK", job(12, "wide-4 wide-6 wide-8"));
+    cases.add("OK", job(12, "most"));
+    cases.add("OK", job(12, "wide-4 most-second"));
+    // Paths: the first and the last byte that may be; 200 bytes; in a folder and with `=`, by which
+    // the next job finds what this one has written.
+    cases.add("OK", job(4, "!~"));
+    let out = longer(&format!("{}.out", cases.next()), 200);
+    cases.add("OK", format!("lgk=4\nin={}\nout={out}\n", longer("six", 200)));
+    cases.add("OK", "lgk=4\nin=folder/three\nin=last\nout=folder/a=b=\n".into());
+    cases.add("OK", job(4, "folder/a=b= aux"));
+    // The output is an input; it replaces a longer file whole.
+    cases.over(images.read("aux").unwrap(), "OK", job(4, "three N.out last"));
+    cases.over(&[b'x'; 300], "OK", job(4, "three"));
+}
+
+fn refusals(cases: &mut Cases, images: &Disk) {
+    for (name, position, file) in [
+        ("IO", 1, "missing"),
+        ("IO", 3, "missing"),
+        ("IO", 1, "folder"),
+        ("IO", 2, "folder"),
+        ("LONG", 1, "long"),
+        ("LONG", 2, "long"),
+        ("SHORT", 1, "bytes-39"),
+        ("SHORT", 2, "nothing"),
+        ("SHORT", 1, "bytes-40"),
+        // Behind the same image uncut, so that the missing byte is not taken from there.
+        ("SHORT", 2, "cut-8"),
+        ("SHORT", 1, "cut-6"),
+        ("SHORT", 3, "cut-4"),
+        ("SHORT", 1, "cut-second"),
+        ("HEADER", 1, "header-0"),
+        ("HEADER", 2, "header-1"),
+        ("HEADER", 1, "header-2"),
+        ("MODE", 1, "mode-list"),
+        ("MODE", 2, "mode-18"),
+        ("LGK", 1, "lgk-3"),
+        ("LGK", 2, "lgk-22"),
+        ("LARGE", 1, "large-13"),
+        ("LARGE", 2, "large-21"),
+        ("COUNTS", 1, "counts-num"),
+        ("COUNTS", 2, "counts-aux"),
+        ("COUNTS", 3, "counts-min"),
+        ("COUNTS", 1, "counts-min-8"),
+        ("COUNTS", 2, "counts-aux-6"),
+        ("LGARR", 1, "lgarr-23"),
+        ("LGARR", 2, "lgarr-255"),
+        ("VALUE", 1, "value-64"),
+        ("VALUE", 2, "value-nibble"),
+        ("AUX", 1, "aux-none"),
+        ("AUX", 2, "aux-more"),
+        ("AUX", 3, "aux-twice"),
+        ("AUX", 1, "aux-low"),
+        ("AUX", 2, "aux-empty"),
+        ("AUX", 4, "aux-count"),
+        ("SPARE", 1, "spare-1"),
+        ("SPARE", 2, "spare-128"),
+        ("TALLY", 1, "tally-8"),
+        ("TALLY", 2, "tally-none"),
+        ("TALLY", 3, "tally-full"),
+        // Two things wrong in one file: the earlier check answers.
+        ("LONG", 1, "long-header"),
+        ("HEADER", 1, "header-large"),
+        ("LARGE", 1, "large-counts"),
+        ("COUNTS", 1, "counts-short"),
+        ("AUX", 1, "aux-tally"),
+    ] {
+        cases.refused(name, position, file);
+    }
+    // The target is finer than a source, which comes after all of opening.
+    cases.add("FINER 1", job(5, "three"));
+    cases.add("FINER 2", job(12, "most wide-11"));
+    cases.add("TALLY 1", job(5, "tally-8"));
+    // The first of two bad files answers, though IO comes before TALLY in one. Refused behind 63 others.
+    cases.add("TALLY 1", job(4, "tally-8 missing"));
+    cases.add("MODE 64", job(4, &format!("{}mode-list", "six ".repeat(63))));
+    // The output is an input, and a later input is refused: it stays as it is.
+    cases.over(images.read("aux").unwrap(), "AUX 2", job(4, "N.out aux-none"));
+}
+
+/// The output can't be written: its folder is missing; it is a folder; it is a device, which takes
+/// no byte and is not to be replaced by a file, as a second run shows.
+fn outputs(cases: &mut Cases) {
+    for out in ["missing/all", "folder", "/dev/full", "/dev/full"] {
+        cases.add("IO 0", format!("lgk=4\nin=three\nout={out}\n"));
+    }
+    // The folder is still there. A refused input comes before the output.
+    cases.add("OK", job(4, "folder/three"));
+    cases.add("SPARE 1", "lgk=4\nin=spare-1\nout=missing/all\n".into());
+}
+
+fn texts(cases: &mut Cases) {
+    for text in [
+        "",
+        // The end of a line: none at last; one too many; text behind; CR LF.
+        "lgk=4\nin=three\nout=N.out",
+        "lgk=4\nin=three\nout=N.out\n\n",
+        "lgk=4\nin=three\nout=N.out\nx",
+        "lgk=4\r\nin=three\r\nout=N.out\r\n",
+        // lgk; 260 is 4 modulo 256.
+        "lgk=3\nin=three\nout=N.out\n",
+        "lgk=13\nin=three\nout=N.out\n",
+        "lgk=04\nin=three\nout=N.out\n",
+        "lgk=+4\nin=three\nout=N.out\n",
+        "lgk=\nin=three\nout=N.out\n",
+        "lgk=4 \nin=three\nout=N.out\n",
+        "lgk=260\nin=three\nout=N.out\n",
+        // Lines missing, twice, in another order, of another key, with nothing said.
+        "in=three\nout=N.out\n",
+        "lgk=4\nout=N.out\n",
+        "lgk=4\nin=three\n",
+        "lgk=4\nlgk=4\nin=three\nout=N.out\n",
+        "lgk=4\nout=N.out\nin=three\n",
+        "lgk=4\nin=three\nkind=8\nout=N.out\n",
+        "lgk=4\nin=\nout=N.out\n",
+        "lgk=4\nin=three\nout=\n",
+        // Bytes that no path has: 32, 127, 128, 0 and 9. A path does not end at 0.
+        "lgk=4\nin=th ree\nout=N.out\n",
+        "lgk=4\nin=three\u{7f}\nout=N.out\n",
+        "lgk=4\nin=three\u{80}\nout=N.out\n",
+        "lgk=4\nin=three\0\nout=N.out\n",
+        "lgk=4\nin=\tthree\nout=N.out\n",
+        // The job is judged before any file: the missing one does not answer.
+        "lgk=4\nin=missing\nout=\n",
+    ] {
+        cases.no_job(text);
+    }
+    // 64 inputs are fine (above), 65 are not.
+    cases.no_job(&job(4, &["three"; 65].join(" ")));
+    // A path of 200 bytes is one, though no file has it; of 201 not.
+    cases.add("IO 1", job(4, &"x".repeat(200)));
+    cases.no_job(&job(4, &longer("three", 201)));
+    // 4,096 bytes are fine, one more is not.
+    let n = cases.next();
+    cases.add("OK", of_length(4096, n));
+    cases.no_job(&of_length(4097, n + 1));
+}
+
+const EXAMPLE_INS: &str = "empty three";
+
+/// What document 01 prints of its example.
+const EXAMPLE: &str = "\
+answer=OK
+files=2
+lgk=4
+zeros=15
+max=5
+kxq0n=32279363584
+kxq1n=0
+";
+
+/// What the driver shows of a file.
+fn shown(file: Option<&[u8]>) -> String {
+    let Some(bytes) = file else { return "output=none\n".into() };
+    let next = |sum: u64, byte: &u8| (sum * 257 + *byte as u64) % 4_294_967_291;
+    format!("bytes={}\nsum={}\n", bytes.len(), bytes.iter().fold(1, next))
+}
+
+/// Puts the files into a folder.
+pub fn lay_out(folder: &Path, disk: &Disk) -> io::Result<()> {
+    for (name, bytes) in &disk.0 {
+        let path = folder.join(name);
+        fs::create_dir_all(path.parent().unwrap())?;
+        fs::write(path, bytes)?;
+    }
+    Ok(())
+}
+
+/// Makes the files of both crates in folders of their names; says how many jobs have each answer.
+pub fn write(folder: &Path) -> io::Result<String> {
+    let images: Vec<_> = [good(), bad()].concat();
+    let images = images.into_iter().map(|(name, image)| (name.to_string(), image));
+    let images = Disk(images.collect());
+    let mut cases = Cases(Vec::new());
+    merges(&mut cases, &images);
+    refusals(&mut cases, &images);
+    outputs(&mut cases);
+    texts(&mut cases);
+
+    let mut disk = images.clone();
+    for (n, case) in cases.0.iter().enumerate() {
+        disk.0.insert(format!("{n}.job"), case.text.chars().map(|c| c as u8).collect());
+        if let Some(before) = &case.before {
+            disk.0.insert(format!("{n}.out"), before.clone());
+        }
+    }
+    lay_out(&folder.join("merge_jobs/data"), &disk)?;
+
+    let mut stdout = String::new();
+    let mut answers: BTreeMap<u8, u32> = BTreeMap::new();
+    for (n, case) in cases.0.iter().enumerate() {
+        let text = disk.0[&format!("{n}.job")].clone();
+        let outcome = run(&mut disk, &text);
+        let (no, answer) = match &outcome {
+            Outcome::Refused { no, file } => (*no, format!("{} {file}", NAMES[*no as usize])),
+            Outcome::Merged { .. } => (0, "OK".into()),
+        };
+        assert_eq!(answer, case.answer, "job {n}: {}", case.text);
+        *answers.entry(no).or_default() += 1;
+        let out = shown(disk.read(&format!("{n}.out")));
+        stdout += &format!("job={n}\n{outcome}{out}");
+    }
+    fs::write(folder.join("merge_jobs/stdout"), &stdout)?;
+    assert!(stdout.starts_with(&format!("job=0\n{EXAMPLE}bytes=")), "document 01's example");
+
+    example(&folder.join("merge"), &images)?;
+    let answers = answers.iter().map(|(no, times)| format!("{times} {}", NAMES[*no as usize]));
+    Ok(format!("{} jobs: {}", cases.next(), answers.collect::<Vec<_>>().join(", ")))
+}
+
+/// Document 01's example as the one job of crates/merge.
+fn example(folder: &Path, images: &Disk) -> io::Result<()> {
+    let names = EXAMPLE_INS.split(' ');
+    let files = names.map(|name| (format!("{name}.img"), images.0[name].clone()));
+    lay_out(&folder.join("data"), &Disk(files.collect()))?;
+    fs::write(folder.join("stdin"), "lgk=4\nin=empty.img\nin=three.img\nout=all.img\n")?;
+    fs::write(folder.join("stdout"), EXAMPLE)
+}

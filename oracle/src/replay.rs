@@ -1,0 +1,216 @@
+//! The lists of the crate `replay`: histories, images and merges, each line with what the Rust
+//! answers. crates/replay/src/main.rt says what a line means and which image bytes are free.
+
+use crate::check::damage;
+use crate::examples::{Random, coupons, listed, spread};
+use crate::model::refusal;
+use crate::{Answer, Recipe, State, hex, merge, run};
+
+/// What the replaying program has memory for.
+const LARGEST: u8 = 10;
+
+struct List(String);
+
+impl List {
+    fn bytes(&mut self, letter: char, bytes: &[u8]) {
+        self.0 += &format!("{letter}{}\n", hex(bytes));
+    }
+
+    fn words(&mut self, letter: char, words: &[u32]) {
+        let bytes: Vec<u8> = words.iter().flat_map(|word| word.to_be_bytes()).collect();
+        self.bytes(letter, &bytes);
+    }
+
+    fn start(&mut self, recipe: &Recipe) {
+        match recipe {
+            Recipe::History { kind, lg_k, .. } => self.bytes('S', &[*kind, *lg_k]),
+            Recipe::Open { image, .. } => self.bytes('O', image),
+            Recipe::FromList { .. } => unreachable!(),
+        }
+    }
+
+    /// All that a sketch shows; `image` is I or J.
+    fn shown(&mut self, answer: Answer, image: char) -> State {
+        let Answer::Ok(state) = answer else { unreachable!("answered {answer}") };
+        self.bytes('R', &state.registers);
+        if state.kind == 4 {
+            self.words('T', &state.table);
+        }
+        self.bytes(image, &state.image);
+        state
+    }
+
+    /// Feeds the batches in turn and shows the sketch after each.
+    fn fed(&mut self, mut recipe: Recipe, batches: Vec<Vec<u32>>) -> (Recipe, State) {
+        self.start(&recipe);
+        let image = if matches!(recipe, Recipe::Open { .. }) { 'J' } else { 'I' };
+        let mut state = self.shown(run(&recipe), image);
+        for batch in batches {
+            self.words('F', &batch);
+            match &mut recipe {
+                Recipe::History { coupons, .. } | Recipe::Open { coupons, .. } => {
+                    coupons.extend(batch)
+                }
+                Recipe::FromList { .. } => unreachable!(),
+            }
+            state = self.shown(run(&recipe), image);
+        }
+        (recipe, state)
+    }
+}
+
+fn empty(kind: u8, lg_k: u8) -> Recipe {
+    Recipe::History { kind, lg_k, coupons: Vec::new() }
+}
+
+/// N stories, of a sketch each, its image and what becomes of it.
+pub fn replay(n: u64, seed: u64) -> String {
+    let random = &mut Random::new(seed);
+    let mut list = List(String::new());
+    for i in 0..n {
+        let kind = [4, 4, 6, 8][i as usize % 4];
+        let large = 8 + ((i / 15 + 2) % 3) as u8;
+        let lg_k = if i % 15 == 0 { large } else { 4 + random.below(4) as u8 };
+        let batches = batches(random, lg_k);
+        let (_, state) = list.fed(empty(kind, lg_k), batches);
+        refused(random, &mut list, &state.image);
+        let image = reopened(random, state.image);
+        let more = some(random, lg_k);
+        let (source, state) = list.fed(Recipe::Open { image, coupons: Vec::new() }, vec![more]);
+        refused(random, &mut list, &state.image);
+        merged(random, &mut list, source, lg_k);
+    }
+    list.0
+}
+
+/// At most 20 coupons, by any plan.
+fn some(random: &mut Random, lg_k: u8) -> Vec<u32> {
+    let plan = random.below(4);
+    let mut coupons = coupons(random, lg_k, plan, 20);
+    coupons.truncate(random.below(21) as usize);
+    coupons
+}
+
+fn batches(random: &mut Random, lg_k: u8) -> Vec<Vec<u32>> {
+    let many = 1 + random.below(3);
+    if random.below(2) == 0 {
+        return climb(random, lg_k, many);
+    }
+    (0..many)
+        .map(|_| {
+            let (plan, most) = (random.below(4), 1 + random.below(2 << lg_k));
+            coupons(random, lg_k, plan, most)
+        })
+        .collect()
+}
+
+/// Rounds over all slots, each of which lifts cur_min; a third of the values lie about cur_min + 15.
+fn climb(random: &mut Random, lg_k: u8, many: u32) -> Vec<Vec<u32>> {
+    let mut floor = 0;
+    (0..many)
+        .map(|_| {
+            let rise = 1 + random.below(5);
+            let mut batch = Vec::new();
+            for slot in random.slots(1 << lg_k) {
+                let edge = random.below(3) == 0;
+                let value = if edge {
+                    floor + 14 + random.below(3 + rise)
+                } else {
+                    floor + rise + random.below(2)
+                };
+                batch.push(random.coupon(1 << lg_k, slot, value));
+            }
+            floor += rise;
+            batch
+        })
+        .collect()
+}
+
+/// The image as it is, or in other words that mean the same; at times with bytes behind it.
+fn reopened(random: &mut Random, image: Vec<u8>) -> Vec<u8> {
+    let mut image = match random.below(3) {
+        0 => image,
+        1 => listed(random, &image),
+        _ => spread(random, &image),
+    };
+    if random.below(4) == 0 {
+        image.extend([random.below(256) as u8, 0]);
+    }
+    image
+}
+
+/// Damaged images that both sides refuse: where document 01 is stricter there is nothing to compare.
+fn refused(random: &mut Random, list: &mut List, image: &[u8]) {
+    for _ in 0..3 {
+        let mut image = damage(random, image);
+        if random.below(4) == 0 {
+            image.truncate(random.below(image.len() as u32) as usize);
+        }
+        let answer = run(&Recipe::Open { image: image.clone(), coupons: Vec::new() });
+        let small = image.get(3).is_none_or(|lg_k| *lg_k <= LARGEST);
+        if small && matches!(answer, Answer::Error(_)) && refusal(&image) != 0 {
+            list.bytes('X', &image);
+        }
+    }
+}
+
+/// The sketch at hand into a target as fine or coarser; at times another source after it.
+fn merged(random: &mut Random, list: &mut List, source: Recipe, lg_k: u8) {
+    let coarser = 4 + random.below(lg_k as u32 - 3) as u8;
+    list.bytes('P', &[]);
+    let few = some(random, coarser);
+    let (target, _) = list.fed(empty(8, coarser), vec![few]);
+    let mut sources = vec![source];
+    list.bytes('M', &[]);
+    list.shown(merge(&target, &sources), 'I');
+    if random.below(3) == 0 {
+        let kind = [4, 6, 8][random.below(3) as usize];
+        let finer = LARGEST.min(coarser + 1);
+        let batches = batches(random, finer);
+        list.bytes('P', &[]);
+        sources.push(list.fed(empty(kind, finer), batches).0);
+        list.bytes('P', &[]);
+        list.bytes('M', &[]);
+        list.shown(merge(&target, &sources), 'I');
+    }
+}
+
+/// A short list in which one thing is wrong on each line but those that make the sketch, and but
+/// the free bytes of an image: each answer of the Rust's with each of its bytes changed in turn,
+/// answers of another length, lines that cannot be read.
+pub fn wrong(seed: u64) -> String {
+    let random = &mut Random::new(seed);
+    let mut list = List(String::new());
+    let (_, state) = list.fed(empty(4, 4), climb(random, 4, 2));
+    each_changed(&mut list, 'R', &state.registers);
+    let table: Vec<u8> = state.table.iter().flat_map(|word| word.to_be_bytes()).collect();
+    each_changed(&mut list, 'T', &table);
+    list.bytes('T', &[&table[4..], &table[..4]].concat());
+    each_changed(&mut list, 'I', &state.image);
+    let image = state.image;
+    list.bytes('X', &image);
+    list.bytes('O', &image[..image.len() - 1]);
+    let (_, state) = list.fed(Recipe::Open { image, coupons: Vec::new() }, vec![some(random, 4)]);
+    each_changed(&mut list, 'J', &state.image);
+    list.0 += UNREAD;
+    list.shown(Answer::Ok(state), 'J');
+    // The last line is cut.
+    list.0.pop();
+    list.0
+}
+
+/// No such kind, no such lg_k, a byte missing; three bytes for a coupon; a target of kind 4;
+/// bytes where there are none; no such letter; nothing; half a byte; no digit; a space.
+const UNREAD: &str = "S0504\nS0403\nS04\nF040000\nM\nM00\nP00\nQ00\nr00\n\nR0\nR0G\nR 00\n";
+
+/// The right line, each byte of it changed, one byte less, one more.
+fn each_changed(list: &mut List, letter: char, bytes: &[u8]) {
+    list.bytes(letter, bytes);
+    for at in 0..bytes.len() {
+        let mut bytes = bytes.to_vec();
+        bytes[at] ^= 1;
+        list.bytes(letter, &bytes);
+    }
+    list.bytes(letter, &bytes[..bytes.len() - 1]);
+    list.bytes(letter, &[bytes, &[0]].concat());
+}
