@@ -4,19 +4,17 @@ use mathlib.Core.List.{List}
 use Prim.Native.Nat.{ℕ, _+_, _*_, _^_, _≤_, _<_}
 use native.Mathlib.Omega.{arith}
 use lib.ListN.{length, getD, take}
-use lib.Pow.{pow-mono, pow-pos}
+use lib.Pow.{pow-mono}
 use borrow.Author.Tests.{ne-eqb}
 use Rattle.model.specs.Coupon.{value}
-use Rattle.model.specs.Registers.{least, countOf, above}
+use Rattle.model.specs.Registers.{least}
 use Rattle.model.specs.Packed.{slotAt}
 use Rattle.model.specs.Table.{Room, baseFor, tableSize, wordAt, used}
 use Rattle.model.specs.Four.{TableAt, nibble}
-use Rattle.model.specs.Sketch.{sketchOf, tableIn, registers, Good}
+use Rattle.model.specs.Sketch.{tableIn, registers, Good}
 use Rattle.model.specs.declared.Sketch.{Sketch}
-use Rattle.model.proofs.Sizes.{fours}
 use Rattle.model.proofs.Lowest.{least-le, least-most}
 use Rattle.model.proofs.Search.{value-of-word}
-use Rattle.model.proofs.Shape.{shape-size}
 use Rattle.model.proofs.Tables.{table-few, table-word, word-some}
 use Rattle.model.proofs.FourLaws.{four-table, four-long}
 use Rattle.model.proofs.FourGood as book
@@ -40,9 +38,6 @@ module _ (s : Sketch) (regs aux : List ℕ) (four : s .kind ≡ 4) (good : Good 
   pub bytes-few : 2 * length regs ≤ 2 ^ 21
   bytes-few = rw bytes-long (pow-mono (good .shaped .high))
 
-  pub bytes-some : 0 < 2 * length regs
-  bytes-some = rw bytes-long (pow-pos (s .«lg_k»))
-
   pub long : length R ≡ 2 ^ s .«lg_k»
   long = book.long s regs aux four good
 
@@ -62,11 +57,14 @@ module _ (s : Sketch) (regs aux : List ℕ) (four : s .kind ≡ 4) (good : Good 
   pub table : TableAt (baseFor (s .«lg_k»)) (s .«cur_min») R (tableIn s aux)
   table = subst (λ (n : ℕ). TableAt (baseFor (s .«lg_k»)) n R (tableIn s aux)) (sym low-is) (book.table s regs aux four good)
 
-  count-is : s .«aux_count» ≡ used (tableIn s aux)
+  pub count-is : s .«aux_count» ≡ used (tableIn s aux)
   count-is = book.count-is s regs aux four good
 
   pub tabulated : Tabulated s
   tabulated = record { low = good .shaped .low; high = good .shaped .high; few = omega (arith, count-is, table-few table few, long) }
+
+  pub size-fits : tableSize (baseFor (s .«lg_k»)) (s .«aux_count») ≤ length aux
+  size-fits = rw (← book.size-is s regs aux four good) (good .tabled four .fits)
 
   -- as many words of the area as the size rule says
   module _ (size : ℕ) (e : size ≡ tableSize (baseFor (s .«lg_k»)) (s .«aux_count»)) where

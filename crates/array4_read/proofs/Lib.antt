@@ -1,5 +1,2 @@
-pub mod Surveying
-pub mod Passing
 pub mod Held
-pub mod Spreading
-pub mod Pouring
+pub mod Passing

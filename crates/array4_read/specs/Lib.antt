@@ -1,3 +1,2 @@
 pub mod Asks
-pub mod Spread
-pub mod Survey
+pub mod Fits

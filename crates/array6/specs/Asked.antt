@@ -6,7 +6,6 @@ use lib.ListN.{length, getD}
 use Rattle.model.specs.Registers.{countOf}
 use Rattle.model.specs.Packed.{unpacked}
 use Rattle.model.specs.Sketch.{Shaped}
-use Rattle.array8.specs.Asked.{Finer}
 
 -- the bytes of 2 ^ lgk registers, and how many of these are zero
 pub record Counted6 (lgk zeros : ℕ) (regs : List ℕ) : Type 0 where
@@ -17,8 +16,3 @@ pub record Counted6 (lgk zeros : ℕ) (regs : List ℕ) : Type 0 where
 pub record Ready6 (lgk zeros : ℕ) (regs : List ℕ) : Type 0 where
   pub counted : Counted6 lgk zeros regs
   pub spare : getD regs (length regs - 1) 0 ≡ 0
-
--- a target of k registers, and n bytes of 2 ^ lgk registers, as many or more
-pub record Source6 (k lgk n : ℕ) : Type 0 where
-  pub finer : Finer k (2 ^ lgk)
-  pub shaped : Shaped 6 lgk n

@@ -1,17 +1,10 @@
 // Kind 6, after array6.rs: four registers in three bytes, and a spare byte at the end that is zero. The bytes stay packed while they are
 // fed: each coupon reads and stores one cell. (array6.rs's get_raw and put_raw are packed::six's.)
-use model::Sketch;
 ghost use mathlib.Core.Path.{_≡_};
-ghost use mathlib.Core.List.{[]};
-ghost use Prim.Native.Nat.{_^_};
 ghost use lib.ListN.{length};
-ghost use Rattle.model.specs.Registers.{joined, countOf};
-ghost use Rattle.model.specs.Packed.{slotAt, unpacked};
-ghost use Rattle.model.specs.Sketch.{Shaped};
-ghost use Rattle.model.specs.Check.{goodOf};
-ghost use Rattle.packed.specs.Room.{Slot6, Room6};
-ghost use Rattle.array8.specs.Asked.{Lent};
-ghost use Rattle.array6.specs.Asked.{Counted6, Ready6, Source6};
+ghost use Rattle.model.specs.Packed.{slotAt};
+ghost use Rattle.packed.specs.Room.{Slot6};
+ghost use Rattle.array6.specs.Asked.{Counted6, Ready6};
 ghost use Rattle.array6.specs.Given.{Taken6, Fed6};
 
 pub fn get(regs: &[u8], slot: u32) -> u8
@@ -50,55 +43,4 @@ pub fn feed(lg_k: u8, num_zeros: u32, regs: &mut [u8], coupons: &[u32]) -> u32
         i += 1;
     }
     zeros
-}
-
-pub fn unpack(regs: &[u8], out: &mut [u8])
-    requires { ⌜ Room6 (length (now out)) (length (now regs)) ⌝ }
-    ensures { λ _. ⌜ now (out .exit) ≡ unpacked 6 (length (now (out .entry))) (now (regs .entry)) ⌝ }
-{
-    packed::six::unpack(regs, out);
-}
-
-// Into registers of kind 8, which are as many or fewer: nothing is unpacked on the way, so no buffer is asked for.
-pub fn merge_into(target: &mut [u8], regs: &[u8], lg_k: u8)
-    requires { ⌜ Source6 (length (now target)) «lg_k» (length (now regs)) ⌝ }
-    ensures { λ _. ⌜ now (target .exit) ≡ joined (length (now (target .entry))) (now (target .entry)) (unpacked 6 (2 ^ «lg_k») (now (regs .entry))) ⌝ }
-{
-    let k = array8::num_registers(lg_k);
-    let mut src_slot = 0;
-    while src_slot < k {
-        array8::raise(target, src_slot, get(regs, src_slot as u32));
-        src_slot += 1;
-    }
-}
-
-pub fn count_zeros(lg_k: u8, regs: &[u8]) -> u32
-    requires { ⌜ Shaped 6 «lg_k» (length (now regs)) ⌝ }
-    ensures { λ r. ⌜ r ≡ countOf 0 (unpacked 6 (2 ^ «lg_k») (now (regs .entry))) ⌝ }
-{
-    let k = array8::num_registers(lg_k);
-    let mut zeros: u32 = 0;
-    let mut slot = 0;
-    while slot < k {
-        zeros += array8::one_if_zero(get(regs, slot as u32));
-        slot += 1;
-    }
-    zeros
-}
-
-// Good order. A cell of 6 bits is never above 63, so the values need no look; the spare byte does.
-pub fn is_good(s: Sketch, regs: &[u8]) -> bool
-    requires { ⌜ Lent 6 s (now regs) ⌝ }
-    ensures { λ r. ⌜ r ≡ goodOf s (now (regs .entry)) [] ⌝ }
-{
-    if s.cur_min != 0 {
-        return false;
-    }
-    if s.aux_count != 0 {
-        return false;
-    }
-    if regs[regs.len() - 1] != 0 {
-        return false;
-    }
-    s.num_at_cur_min == count_zeros(s.lg_k, regs)
 }

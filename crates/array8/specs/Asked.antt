@@ -1,7 +1,7 @@
 -- What the functions of this crate, and of the other kinds, ask of a caller.
 use mathlib.Core.Path.{_≡_}
 use mathlib.Core.List.{List}
-use Prim.Native.Nat.{ℕ, _^_, _≤_}
+use Prim.Native.Nat.{ℕ, _+_, _%_, _^_, _≤_}
 use lib.ListN.{length}
 use Rattle.model.specs.Registers.{countOf}
 use Rattle.model.specs.Sketch.{Shaped}
@@ -17,6 +17,11 @@ pub record Finer (k n : ℕ) : Type 0 where
   pub target : Power k
   pub source : Power n
   pub most : k ≤ n
+
+-- a target of k registers, and n registers of a source from slot `from` on, of which none starts anew at the target's first
+pub record Blocked (k from n : ℕ) : Type 0 where
+  pub target : Power k
+  pub inside : from % k + n ≤ k
 
 -- a sketch of this kind, and register bytes as many as its lg_k asks
 pub record Lent (kind : ℕ) (s : Sketch) (regs : List ℕ) : Type 0 where

@@ -1,17 +1,13 @@
-// Kind 8, after array8.rs: a byte a register, in the bytes that the caller lends. Nothing here judges what it is lent but is_good: the
-// others ask for registers that fit, and the public calls have looked.
-use model::Sketch;
+// Kind 8, after array8.rs: a byte a register, in the bytes that the caller lends. Nothing here judges what it is lent: the functions ask for
+// registers that fit, and the public calls have looked.
 ghost use mathlib.Core.Path.{_≡_};
 ghost use mathlib.Core.List.{[], _∷_};
 ghost use Prim.Native.Nat.{max, _%_, _^_, _≤_, _<_};
-ghost use lib.Dec.{eqb};
 ghost use lib.ListN.{length, getD};
-ghost use Rattle.model.specs.Pick.{pick};
 ghost use Rattle.model.specs.Registers as book;
-ghost use Rattle.model.specs.Registers.{joined, countOf};
-ghost use Rattle.model.specs.Check.{goodOf};
-ghost use Rattle.array8.specs.Asked.{Power, Finer, Lent, Ready};
-ghost use Rattle.array8.specs.Given.{Fed, Tallied};
+ghost use Rattle.model.specs.Registers.{fed, poured, joined};
+ghost use Rattle.array8.specs.Asked.{Power, Finer, Blocked, Ready};
+ghost use Rattle.array8.specs.Given.{Fed};
 
 pub mod coupon;
 
@@ -108,56 +104,30 @@ pub fn merge_array_with_downsample(target: &mut [u8], src: &[u8])
     }
 }
 
-// A number to add, and no branch, for the same reason.
-pub fn one_if_zero(value: u8) -> u32
-    ensures { λ r. ⌜ r ≡ pick (eqb value 0) 1 0 ⌝ }
+// Neighbouring registers of any source, so few that they stay neighbours in the target: only the first slot is reduced.
+pub fn merge_block(target: &mut [u8], from: usize, block: &[u8])
+    requires { ⌜ Blocked (length (now target)) from (length (now block)) ⌝ }
+    ensures { λ _. ⌜ now (target .exit) ≡ poured (length (now (target .entry))) (now (target .entry)) from (now (block .entry)) ⌝ }
 {
-    if value == 0 { 1 } else { 0 }
+    let first_dst = from & (target.len() - 1);
+    let mut i = 0;
+    while i < block.len() {
+        let at = first_dst + i;
+        target[at] = larger(target[at], block[i]);
+        i += 1;
+    }
 }
 
-struct Seen {
-    zeros: u32,
-    largest: u8,
-}
-
-// One pass and no early exit, so that it becomes vector code.
-fn tally(regs: &[u8]) -> Seen
-    requires { ⌜ length (now regs) ≤ 2 ^ 21 ⌝ }
-    ensures { λ r. ⌜ Tallied (now (regs .entry)) (r .zeros) (r .largest) ⌝ }
+// Exception words, as if they were coupons. An empty one has value 0 and raises nothing, so none is passed over.
+pub fn raise_words(target: &mut [u8], words: &[u32])
+    requires { ⌜ Power (length (now target)) ⌝ }
+    ensures { λ _. ⌜ now (target .exit) ≡ fed (length (now (target .entry))) (now (target .entry)) (now (words .entry)) ⌝ }
 {
-    let mut zeros: u32 = 0;
-    let mut largest: u8 = 0;
-    let mut at = 0;
-    while at < regs.len() {
-        let value = regs[at];
-        zeros += one_if_zero(value);
-        largest = larger(largest, value);
+    let first = 0;
+    let mut at = first;
+    while at < words.len() {
+        let word = words[at];
+        raise(target, coupon::slot(word) as usize, coupon::value(word));
         at += 1;
     }
-    Seen { zeros, largest }
-}
-
-pub fn count_zeros(regs: &[u8]) -> u32
-    requires { ⌜ length (now regs) ≤ 2 ^ 21 ⌝ }
-    ensures { λ r. ⌜ r ≡ countOf 0 (now (regs .entry)) ⌝ }
-{
-    tally(regs).zeros
-}
-
-// Good order. What the record says of itself is judged first; that num_at_cur_min is at most k follows from the zeros counted.
-pub fn is_good(s: Sketch, regs: &[u8]) -> bool
-    requires { ⌜ Lent 8 s (now regs) ⌝ }
-    ensures { λ r. ⌜ r ≡ goodOf s (now (regs .entry)) [] ⌝ }
-{
-    if s.cur_min != 0 {
-        return false;
-    }
-    if s.aux_count != 0 {
-        return false;
-    }
-    let seen = tally(regs);
-    if 63 < seen.largest {
-        return false;
-    }
-    s.num_at_cur_min == seen.zeros
 }

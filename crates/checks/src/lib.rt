@@ -55,18 +55,29 @@ pub fn shape(kind: u8, lg_k: u8, len: usize) -> Answer
     Answer::Ok
 }
 
-// Good order, by kind. Kinds 6 and 8 do not look at the exception area.
+// Good order: the record alone, then the cells, then kind 4's table. Kinds 6 and 8 do not look at the exception area.
 fn is_good(s: Sketch, regs: &[u8], aux: &[u32]) -> bool
     requires { ⌜ Shaped (s .kind) (s .«lg_k») (length (now regs)) ⌝ }
     ensures { λ r. ⌜ r ≡ goodOf s (now (regs .entry)) (now (aux .entry)) ⌝ }
 {
-    if s.kind == 8 {
-        return array8::is_good(s, regs);
+    let counts = survey::counts_fit(s);
+    if !counts {
+        return false;
     }
-    if s.kind == 6 {
-        return array6::is_good(s, regs);
+    let seen = survey::survey(s, regs);
+    if !seen.values {
+        return false;
     }
-    array4_read::is_good(s, regs, aux)
+    if !seen.spare {
+        return false;
+    }
+    if !seen.tally {
+        return false;
+    }
+    if s.kind != 4 {
+        return true;
+    }
+    array4_read::table_fits(s, regs, aux, seen.tokens)
 }
 
 // `lent`: what else the call is lent has the right size. It is judged after the registers' own size, and before their order.

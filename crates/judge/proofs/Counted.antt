@@ -1,64 +1,60 @@
--- What the pass over the register bytes says of the last rungs: VALUE, SPARE and TALLY. Assumes nothing.
-use mathlib.Core.Path.{_≡_, refl, sym, _∙_, ap}
-use mathlib.Core.Bool.{true, false}
-use mathlib.Core.List.{List}
-use Prim.Native.Nat.{ℕ, _+_, _-_, _<_}
+-- What the survey of the register bytes, which the code cuts out of the image, says of the last rungs: VALUE, AUX, SPARE, TALLY. Assumes nothing.
+use mathlib.Core.Path.{_≡_, refl, _∙_, subst}
+use mathlib.Core.Bool.{Bool, true, false, not}
+use mathlib.Core.List.{List, [], _∷_}
+use Prim.Native.Nat.{ℕ, _+_, _-_}
 use native.Mathlib.Omega.{arith}
-use lib.Dec.{eqb, ltb}
-use lib.ListN.{length, getD, take, drop}
-use lib.Seq.{getD-take, getD-drop}
-use borrow.Author.Tests.{eq-eqb, ne-eqb}
-use Rattle.model.specs.Pick.{pick, both}
-use Rattle.model.specs.Registers.{countOf}
-use Rattle.model.specs.Sketch.{bytesOf, cells}
-use Rattle.model.specs.Check.{valuesFit, spareFits, tallyFits}
-use Rattle.model.specs.Image.{regsIn}
+use lib.Dec.{eqb}
+use lib.ListN.{take, drop}
+use borrow.Author.Tests.{not-true, not-false}
+use Rattle.model.specs.Pick.{pick, firstOf}
+use Rattle.model.specs.Sketch.{bytesOf}
+use Rattle.model.specs.Image.{regsIn, auxFits}
 use Rattle.model.specs.declared.Sketch.{Sketch}
-use Rattle.judge_tally.specs.Tallies.{Countable, Tallied}
-use Rattle.judge_tally.specs.declared.Tally.{Tally}
+use Rattle.survey.specs.Survey.{Surveyable, Surveyed}
+use Rattle.survey.specs.declared.Seen.{Seen}
+use Rattle.judge.specs.Ladder.{bodyNo}
 use Rattle.judge.specs.Passed.{Sound, Full}
-use Rattle.judge.proofs.Payload.{regs-part, regs-long, bytes-some}
+use Rattle.judge.proofs.Payload.{regs-part, regs-long}
 
-module _ (l : List ℕ) (s : Sketch) (room : ℕ) (ok : Sound l s room) (n : ℕ) (e : n ≡ bytesOf (s .kind) (s .«lg_k»)) where
-  abbrev part : List ℕ
-  part = take (40 + n - 40) (drop 40 l)
+module _ {l : List ℕ} {s : Sketch} {room : ℕ} (ok : Sound l s room) (n : ℕ) (e : n ≡ bytesOf (s .kind) (s .«lg_k»)) where
+  pub surveyable : Surveyable s (take (40 + n - 40) (drop 40 l))
+  surveyable =
+      let long = regs-long l s (ok .kinded .headed .is) n e (omega (arith, ok .payload)) in
+      record { shaped = record { is-kind = ok .kinded .known; low = ok .kinded .low; high = ok .kinded .high; long = long ∙ e }; counts = ok .counts }
 
-  part-is : part ≡ regsIn l
-  part-is = regs-part l s (ok .kinded .headed .is) n e
+  module _ {seen : Seen} (told : Surveyed s (take (40 + n - 40) (drop 40 l)) seen) where
+    surveyed : Surveyed s (regsIn l) seen
+    surveyed = subst (λ (regs : List ℕ). Surveyed s regs seen) (regs-part l s (ok .kinded .headed .is) n e) told
 
-  part-long : length part ≡ n
-  part-long = regs-long l s (ok .kinded .headed .is) n e (omega (arith, ok .payload))
+    pub full : Full l s (seen .tokens) room
+    full = record { sound = ok; counted = surveyed .tokens }
 
-  pub countable : Countable (s .kind) s (take (40 + n - 40) (drop 40 l))
-  countable =
-      record {
-        is = refl;
-        shaped = record { is-kind = ok .kinded .known; low = ok .kinded .low; high = ok .kinded .high; long = part-long ∙ e };
-        counts = ok .counts;
-      }
+    -- the rungs, by what the code tests
+    module _ {listed : Bool} (is : listed ≡ pick (eqb (s .kind) 4) (auxFits l) true) where
+      body-is : firstOf (pick (seen .values) 0 12 ∷ pick listed 0 13 ∷ pick (seen .spare) 0 14 ∷ pick (seen .tally) 0 15 ∷ []) ≡ bodyNo l s
+      unfolding bodyNo
+      body-is = rw (surveyed .values, is, surveyed .spare, surveyed .tally)
 
-  -- the last register byte, which the code reads in the image
-  pub spare-is : pick (eqb (s .kind) 6) (eqb (getD l (40 + n - 1) 0) 0) true ≡ spareFits s (regsIn l)
-  unfolding spareFits
-  spare-is =
-      let some : 0 < n = rw e (bytes-some _ _ (ok .kinded .low)) in
-      let at : getD part (length part - 1) 0 ≡ getD l (40 + n - 1) 0 =
-      ap (λ (i : ℕ). getD part (i - 1) 0) part-long ∙ getD-take (40 + n - 40) (drop 40 l) (n - 1) 0 (omega arith) ∙ getD-drop 40 l (n - 1) 0 ∙ ap (λ (i : ℕ). getD l i 0) (let z : 40 + (n - 1) ≡ 40 + n - 1 = omega arith in z) in
-      ap (λ (x : ℕ). pick (eqb (s .kind) 6) (eqb x 0) true) (sym at ∙ ap (λ (r : List ℕ). getD r (length r - 1) 0) part-is)
+      module _ (value : not (seen .values) ≡ false) where
+        pub aux-no : not listed ≡ true → 13 ≡ bodyNo l s
+        unfolding firstOf
+        aux-no h = rw (← body-is, not-false (seen .values) value, not-true listed h)
 
-  module _ (t : Tally) (told : Tallied s (take (40 + n - 40) (drop 40 l)) t) where
-    values : eqb (t .over) 0 ≡ valuesFit s (regsIn l)
-    values = told .values ∙ ap (valuesFit s) part-is
+        module _ (aux : not listed ≡ false) where
+          pub spare-no : not (seen .spare) ≡ true → 14 ≡ bodyNo l s
+          unfolding firstOf
+          spare-no h = rw (← body-is, not-false (seen .values) value, not-false listed aux, not-true (seen .spare) h)
 
-    pub value-no : (t .over ≡ 0 → ⊥) → valuesFit s (regsIn l) ≡ false
-    value-no h = sym values ∙ ne-eqb (t .over) 0 h
+          module _ (spare : not (seen .spare) ≡ false) where
+            pub tally-no : not (seen .tally) ≡ true → 15 ≡ bodyNo l s
+            unfolding firstOf
+            tally-no h = rw (← body-is, not-false (seen .values) value, not-false listed aux, not-false (seen .spare) spare, not-true (seen .tally) h)
 
-    pub value-ok : t .over ≡ 0 → valuesFit s (regsIn l) ≡ true
-    value-ok h = sym values ∙ eq-eqb (t .over) 0 h
+            pub body-ok : not (seen .tally) ≡ false → 0 ≡ bodyNo l s
+            unfolding firstOf
+            body-ok h = rw (← body-is, not-false (seen .values) value, not-false listed aux, not-false (seen .spare) spare, not-false (seen .tally) h)
 
-    pub full : Full l s (t .fulls) room
-    full = record { sound = ok; counted = λ four. told .full four ∙ ap (λ (r : List ℕ). countOf 15 (cells s r)) part-is }
-
-    pub tally-is : both (eqb (s .«num_at_cur_min») (t .zeros)) (pick (eqb (s .kind) 4) (ltb 0 (s .«num_at_cur_min»)) true) ≡ tallyFits s (regsIn l)
-    unfolding tallyFits
-    tally-is = ap (λ (m : ℕ). both (eqb (s .«num_at_cur_min») m) (pick (eqb (s .kind) 4) (ltb 0 (s .«num_at_cur_min»)) true)) (told .none ∙ ap (λ (r : List ℕ). countOf 0 (cells s r)) part-is)
+    pub value-no : not (seen .values) ≡ true → 12 ≡ bodyNo l s
+    unfolding firstOf
+    value-no h = rw (← body-is refl, not-true (seen .values) h)

@@ -1,27 +1,13 @@
 -- The parts of an image behind its header, and what each function asks of them. Assumes nothing.
 use mathlib.Core.Path.{_≡_, _∙_, ap}
-use mathlib.Core.Bool.{Bool, true, false}
 use mathlib.Core.List.{List}
-use Prim.Native.Nat.{ℕ, _+_, _-_, _*_, _/_, _^_, _≤_, _<_}
+use Prim.Native.Nat.{ℕ, _+_, _-_, _≤_}
 use native.Mathlib.Omega.{arith}
-use lib.Dec.{eqb}
 use lib.ListN.{length, take, drop, length-drop}
-use lib.Pow.{pow-mono}
 use lib.Seq.{length-take-le, take-all}
-use Rattle.model.specs.Pick.{pick}
 use Rattle.model.specs.Sketch.{bytesOf}
 use Rattle.model.specs.Image.{sketchIn, regsIn}
 use Rattle.model.specs.declared.Sketch.{Sketch}
-
--- there is a last byte
-pub bytes-some : (kind lgk : ℕ) → 4 ≤ lgk → 0 < bytesOf kind lgk
-unfolding bytesOf
-bytes-some kind lgk h = go (eqb kind 8) (eqb kind 6) (pow-mono h)
-  where
-    go : (a b : Bool) → 2 ^ 4 ≤ 2 ^ lgk → 0 < pick a (2 ^ lgk) (pick b (2 ^ lgk / 4 * 3 + 1) (2 ^ lgk / 2))
-    go true b e = omega arith
-    go false true e = omega arith
-    go false false e = omega arith
 
 module _ (l : List ℕ) (s : Sketch) (is : s ≡ sketchIn l) where
   size-is : bytesOf (s .kind) (s .«lg_k») ≡ bytesOf (sketchIn l .kind) (sketchIn l .«lg_k»)

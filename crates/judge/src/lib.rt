@@ -5,12 +5,11 @@ use model::Sketch;
 ghost use mathlib.Core.Path.{_≡_};
 ghost use mathlib.Core.Bool.{true};
 ghost use Prim.Native.Nat.{_≤_};
-ghost use lib.Dec.{eqb, ltb};
+ghost use lib.Dec.{eqb};
 ghost use lib.ListN.{length};
-ghost use Rattle.model.specs.Pick.{pick, both, Tells};
+ghost use Rattle.model.specs.Pick.{pick, Tells};
 ghost use Rattle.model.specs.Answers.{numberOf};
 ghost use Rattle.model.specs.Sketch.{isKind, bytesOf};
-ghost use Rattle.model.specs.Check.{countsFit};
 ghost use Rattle.model.specs.Image.{kindOf, sketchIn, compactIn, wordCount, auxFits};
 ghost use Rattle.judge.specs.Ladder.{judgeNo, frontNo, lentNo, sizesNo, bodyNo, formFits};
 ghost use Rattle.judge.specs.Passed.{Starts, Headed, Formed, Kinded, Sound, Full};
@@ -151,26 +150,6 @@ fn lent(s: Sketch, regs_len: usize, aux_len: usize, scratch_len: usize) -> Answe
     Answer::Ok
 }
 
-fn counts_fit(s: Sketch) -> bool
-    requires { ⌜ s .«lg_k» ≤ 21 ⌝ }
-    ensures { λ r. ⌜ r ≡ countsFit s ⌝ }
-{
-    let k = 1u32 << s.lg_k;
-    if k < s.num_at_cur_min {
-        return false;
-    }
-    if k < s.aux_count {
-        return false;
-    }
-    if s.kind == 4 {
-        return s.cur_min <= 63;
-    }
-    if s.cur_min != 0 {
-        return false;
-    }
-    s.aux_count == 0
-}
-
 // The lg_arr of the second form, where it has words.
 fn form_fits(image: &[u8], s: Sketch) -> bool
     requires { ⌜ Headed (now image) s ⌝ }
@@ -191,7 +170,7 @@ fn sizes(image: &[u8], s: Sketch, aux_len: usize) -> Answer
     requires { ⌜ Kinded (now image) s ⌝ }
     ensures { λ r. ⌜ numberOf r ≡ sizesNo (now (image .entry)) s «aux_len» ⌝ }
 {
-    let fit = counts_fit(s);
+    let fit = survey::counts_fit(s);
     if !fit {
         return Answer::Counts;
     }
@@ -242,49 +221,24 @@ fn aux_fits(image: &[u8], s: Sketch, fulls: u32, scratch: &mut [u32]) -> bool
     )
 }
 
-// Kind 6's last byte is a spare one.
-fn spare_fits(kind: u8, last: u8) -> bool
-    ensures { λ r. ⌜ r ≡ pick (eqb kind 6) (eqb last 0) true ⌝ }
-{
-    if kind != 6 {
-        return true;
-    }
-    last == 0
-}
-
-// The number of cells that are 0 is the header's, and for kind 4 there is one.
-fn tally_fits(s: Sketch, zeros: u32) -> bool
-    ensures { λ r. ⌜ r ≡ both (eqb (s .«num_at_cur_min») zeros) (pick (eqb (s .kind) 4) (ltb 0 (s .«num_at_cur_min»)) true) ⌝ }
-{
-    if s.num_at_cur_min != zeros {
-        return false;
-    }
-    if s.kind != 4 {
-        return true;
-    }
-    0 < s.num_at_cur_min
-}
-
 // VALUE, AUX, SPARE, TALLY.
 fn body(image: &[u8], s: Sketch, scratch: &mut [u32]) -> Answer
     requires { ⌜ Sound (now image) s (length (now scratch)) ⌝ }
     ensures { λ r. ⌜ numberOf r ≡ bodyNo (now (image .entry)) s ⌝ }
 {
     let end = 40 + bytes_of(s.kind, s.lg_k);
-    let t = judge_tally::count_cells(s, &image[40..end]);
-    if t.over != 0 {
+    let seen = survey::survey(s, &image[40..end]);
+    if !seen.values {
         return Answer::Value;
     }
-    let listed = aux_fits(image, s, t.fulls, scratch);
+    let listed = aux_fits(image, s, seen.tokens, scratch);
     if !listed {
         return Answer::Aux;
     }
-    let clean = spare_fits(s.kind, image[end - 1]);
-    if !clean {
+    if !seen.spare {
         return Answer::Spare;
     }
-    let told = tally_fits(s, t.zeros);
-    if !told {
+    if !seen.tally {
         return Answer::Tally;
     }
     Answer::Ok

@@ -35,11 +35,11 @@ fed-at k t (c ∷ cs) i h =
     fed-at k (raise t (home k c) (value c)) cs i (rw (length-raise t (home k c) (value c)) h) ∙ raise-at t (home k c) i (value c) (largest k i cs) h
 
 -- the largest of the source registers j, j + 1, .. that go to register i
-most : ℕ → ℕ → ℕ → List ℕ → ℕ
+pub most : ℕ → ℕ → ℕ → List ℕ → ℕ
 most k i j [] = 0
 most k i j (v ∷ vs) = pick (eqb (j % k) i) (max v (most k i (suc j) vs)) (most k i (suc j) vs)
 
-poured-at : (k : ℕ) (t : List ℕ) (j : ℕ) (vs : List ℕ) (i : ℕ) → i < length t → getD (poured k t j vs) i 0 ≡ max (getD t i 0) (most k i j vs)
+pub poured-at : (k : ℕ) (t : List ℕ) (j : ℕ) (vs : List ℕ) (i : ℕ) → i < length t → getD (poured k t j vs) i 0 ≡ max (getD t i 0) (most k i j vs)
 unfolding poured most
 poured-at k t j [] i h = omega arith
 poured-at k t j (v ∷ vs) i h =
@@ -59,7 +59,7 @@ pick-here true v m e = omega arith
 pick-here false v m e = absurd (let z : _≡_ {A = ℕ} 0 1 = cc in omega arith)
 
 -- the largest value is an upper bound, and the least one
-largest-above : (k i : ℕ) (cs : List ℕ) (c : ℕ) → List·Memᴰ c cs → home k c ≡ i → value c ≤ largest k i cs
+pub largest-above : (k i : ℕ) (cs : List ℕ) (c : ℕ) → List·Memᴰ c cs → home k c ≡ i → value c ≤ largest k i cs
 unfolding largest
 largest-above k i [] c m e = absurd (List·Memᴰ·not-nil m)
 largest-above k i (d ∷ cs) c m e =
@@ -68,7 +68,7 @@ largest-above k i (d ∷ cs) c m e =
     (λ (n : List·Memᴰ c cs). le-trans (largest-above k i cs c n e) (pick-rest (eqb (home k d) i) (value d) (largest k i cs)))
     (List·Memᴰ·cases-cons m)
 
-largest-least : (k i : ℕ) (cs : List ℕ) (b : ℕ) → ((c : ℕ) → List·Memᴰ c cs → home k c ≡ i → value c ≤ b) → largest k i cs ≤ b
+pub largest-least : (k i : ℕ) (cs : List ℕ) (b : ℕ) → ((c : ℕ) → List·Memᴰ c cs → home k c ≡ i → value c ≤ b) → largest k i cs ≤ b
 unfolding largest
 largest-least k i [] b f = zero-le
 largest-least k i (d ∷ cs) b f =
@@ -117,14 +117,14 @@ largest-append k i p q =
     omega arith
 
 -- the same two bounds of `most`, over the source's registers
-most-above : (k i j : ℕ) (vs : List ℕ) (n : ℕ) → n < length vs → (j + n) % k ≡ i → getD vs n 0 ≤ most k i j vs
+pub most-above : (k i j : ℕ) (vs : List ℕ) (n : ℕ) → n < length vs → (j + n) % k ≡ i → getD vs n 0 ≤ most k i j vs
 unfolding most
 most-above k i j [] n h e = absurd (not-suc-le-zero h)
 most-above k i j (v ∷ vs) zero h e = pick-here (eqb (j % k) i) v (most k i (suc j) vs) (eq-eqb _ _ (ap (λ (x : ℕ). x % k) (sym (add-zero j)) ∙ e))
 most-above k i j (v ∷ vs) (suc n) h e =
     le-trans (most-above k i (suc j) vs n (le-of-suc-le-suc h) (ap (λ (x : ℕ). x % k) (suc-add j n ∙ sym (add-suc j n)) ∙ e)) (pick-rest (eqb (j % k) i) v (most k i (suc j) vs))
 
-most-least : (k i j : ℕ) (vs : List ℕ) (b : ℕ) → ((n : ℕ) → n < length vs → (j + n) % k ≡ i → getD vs n 0 ≤ b) → most k i j vs ≤ b
+pub most-least : (k i j : ℕ) (vs : List ℕ) (b : ℕ) → ((n : ℕ) → n < length vs → (j + n) % k ≡ i → getD vs n 0 ≤ b) → most k i j vs ≤ b
 unfolding most
 most-least k i j [] b f = zero-le
 most-least k i j (v ∷ vs) b f =
@@ -133,7 +133,7 @@ most-least k i j (v ∷ vs) b f =
     (most-least k i (suc j) vs b (λ n h e. f (suc n) (suc-le-suc h) (ap (λ (x : ℕ). x % k) (add-suc j n ∙ sym (suc-add j n)) ∙ e)))
 
 -- a smaller size's home is found from a larger one's
-home-home : (a b c : ℕ) → a ≤ b → home (2 ^ b) c % 2 ^ a ≡ home (2 ^ a) c
+pub home-home : (a b c : ℕ) → a ≤ b → home (2 ^ b) c % 2 ^ a ≡ home (2 ^ a) c
 home-home a b c h =
     let e : b - a + a ≡ b = omega arith in
     subst (λ (n : ℕ). slot c % 2 ^ n % 2 ^ a ≡ slot c % 2 ^ a) e (mod-mod-pow (slot c) (b - a) a)

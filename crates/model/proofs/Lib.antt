@@ -43,6 +43,7 @@ pub mod Starting
 pub mod Kept
 pub mod Refused
 pub mod Largest
+pub mod Floors
 pub mod Demands
 pub mod Demand1
 pub mod Demand3
@@ -52,6 +53,8 @@ pub mod Taken
 pub mod SameSlots
 pub mod Opening
 pub mod OpenLines
+pub mod ImageFloors
+pub mod FloorCounts
 pub mod Fields
 pub mod Images
 pub mod Listing

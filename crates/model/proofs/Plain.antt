@@ -3,9 +3,10 @@
 use mathlib.Core.Path.{_≡_, refl, sym, ap, ap₂, _∙_, subst₂}
 use mathlib.Core.Bool.{Bool, true, false}
 use mathlib.Core.List.{List, []}
-use mathlib.Core.Logic.{_⊎_, inl, inr}
+use mathlib.Core.Logic.{_⊎_, inl, inr, ⊎-elim}
 use Prim.Native.Nat.{ℕ, _+_, _-_, _*_, _/_, _%_, _^_, _≤_, _<_}
 use native.Mathlib.Nat.{div-eq-of-lt, lt-of-lt-of-le}
+use native.Mathlib.Decide.{ℕ-discrete}
 use native.Mathlib.Omega.{arith}
 use lib.Dec.{eqb}
 use lib.ListN.{length, getD}
@@ -54,6 +55,14 @@ module _ (kind : ℕ) (is : isKind kind ≡ true) (not-4 : kind ≡ 4 → ⊥) w
       go : (kind ≡ 6) ⊎ (kind ≡ 8) → kind * 2 ^ lgk ≤ 8 * bytesOf kind lgk
       go (inl e) = rw e (omega (arith, fours lgk h))
       go (inr e) = rw e (omega arith)
+
+-- the one that is left
+pub left-four : (kind : ℕ) → isKind kind ≡ true → (kind ≡ 8 → ⊥) → (kind ≡ 6 → ⊥) → kind ≡ 4
+left-four kind is eight six = go (ℕ-discrete kind 4)
+  where
+    go : Dec (kind ≡ 4) → kind ≡ 4
+    go (yes e) = e
+    go (no four) = absurd (⊎-elim six eight (six-or-eight kind is four))
 
 -- ---- reading
 module _ (s : Sketch) (regs aux : List ℕ) (not-4 : s .kind ≡ 4 → ⊥) where

@@ -87,11 +87,13 @@ compactIn l = eqb (getD l 5 0 / 8 % 2) 1
 unfoldable pub wordCount : List ℕ → ℕ
 wordCount l = let count = sketchIn l .«aux_count» in pick (compactIn l) count (pick (eqb count 0) 0 (2 ^ getD l 4 0))
 
+-- the words as they stand there, the empty ones too
+abbrev pub wordsIn : List ℕ → List ℕ
+wordsIn l = unpacked 32 (wordCount l) (drop (40 + bytesOf (sketchIn l .kind) (sketchIn l .«lg_k»)) l)
+
 -- the entries among them: the second form passes over the empty ones
 unfoldable pub entriesIn : List ℕ → List ℕ
-entriesIn l =
-    let words = unpacked 32 (wordCount l) (drop (40 + bytesOf (sketchIn l .kind) (sketchIn l .«lg_k»)) l) in
-    pick (compactIn l) words (keeps 1 words)
+entriesIn l = pick (compactIn l) (wordsIn l) (keeps 1 (wordsIn l))
 
 -- an entry as the table has it: its slot modulo k
 abbrev pub taken : ℕ → ℕ → ℕ

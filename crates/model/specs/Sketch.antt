@@ -1,7 +1,7 @@
 -- What is kept of a sketch's registers R: its record, its register bytes and, for kind 4, its exception area; and back.
 use mathlib.Core.Path.{_≡_}
 use mathlib.Core.Bool.{Bool, true}
-use mathlib.Core.List.{List, []}
+use mathlib.Core.List.{List, [], map}
 use Prim.Native.Nat.{ℕ, _+_, _*_, _/_, _^_, _≤_, _<_}
 use lib.Dec.{eqb}
 use lib.ListN.{length, getD, take}
@@ -45,6 +45,10 @@ areaOf kind t aux = pick (eqb kind 4) (laid (length aux) t) aux
 -- what stands at each slot: kinds 6 and 8 keep the registers themselves
 unfoldable pub cells : Sketch → List ℕ → List ℕ
 cells s regs = unpacked (s .kind) (2 ^ s .«lg_k») regs
+
+-- cur_min and what stands at each slot: no register is below that, and only an exception is above it
+unfoldable pub floors : Sketch → List ℕ → List ℕ
+floors s regs = map (_+_ (s .«cur_min»)) (cells s regs)
 
 -- the exception table that the record speaks of
 unfoldable pub tableIn : Sketch → List ℕ → List ℕ

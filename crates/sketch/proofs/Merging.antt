@@ -1,44 +1,64 @@
 -- Each outcome of merge, by one law; and what its part that joins asks. Assumes nothing.
-use mathlib.Core.Path.{_≡_, refl, _∙_}
+use mathlib.Core.Path.{_≡_, refl, ap, _∙_}
+use mathlib.Core.Logic.{inr}
 use mathlib.Core.Bool.{true}
 use mathlib.Core.List.{List, []}
-use mathlib.Core.Logic.{⊎-elim}
-use Prim.Native.Nat.{ℕ, _^_, _≤_, _<_}
+use Prim.Native.Nat.{ℕ, _*_, _^_, _≤_, _<_}
 use native.Mathlib.Omega.{arith}
-use lib.ListN.{length}
+use lib.ListN.{length, take, drop}
 use lib.Pow.{pow-mono}
 use borrow.Author.Tests.{eq-eqb, ne-eqb, lt-leb}
 use Rattle.model.specs.Pick.{firstOf}
-use Rattle.model.specs.Registers.{joined, countOf}
-use Rattle.model.specs.Packed.{Bytes}
-use Rattle.model.specs.Sketch.{sketchOf, areaOf, registers, Good}
+use Rattle.model.specs.Registers.{fed, joined, countOf}
+use Rattle.model.specs.Packed.{Bytes, unpacked}
+use Rattle.model.specs.Sketch.{sketchOf, areaOf, floors, tableIn, registers, Good}
 use Rattle.model.specs.Check.{checkNo}
 use Rattle.model.specs.Calls.{out, keptOut, eightNo, mergeNo, mergeOf}
 use Rattle.model.specs.declared.Sketch.{Sketch}
-use Rattle.model.proofs.Raising.{length-poured, poured-small}
-use Rattle.model.proofs.Plain.{six-or-eight, bytes-8}
+use Rattle.model.proofs.ByteLists.{at-all}
+use Rattle.model.proofs.Raising.{Small, length-poured, poured-small}
+use Rattle.model.proofs.Packing.{unpacked-8}
+use Rattle.model.proofs.Plain.{bytes-8}
 use Rattle.model.proofs.Kept.{check-ok, eight-says, merge-says}
-use Rattle.array8.specs.Asked.{Finer}
-use Rattle.array6.specs.Asked.{Source6}
+use Rattle.model.proofs.Floors.{floors-words, fed-floors, good-floored}
+use Rattle.array8.specs.Asked.{Power, Finer}
+use Rattle.survey_whole.specs.Whole.{Cells}
+use Rattle.blocks.specs.Asked.{Floor, Poured, Worded}
+use Rattle.blocks.proofs.Levels.{good-level, whole-floor, whole-floors, good-worded}
 use Rattle.checks.proofs.Rungs.{rung-no, rung-ok}
-use Rattle.checks.proofs.ByKind.{kind-as, eight-long}
-use Rattle.sketch.specs.Asked.{Joinable}
+use Rattle.checks.proofs.ByKind.{eight-long}
+use Rattle.sketch.specs.Asked.{Unpackable, Joinable}
 use Rattle.sketch.proofs.PlainKept.{eight-kept}
 
--- ---- the source, by kind
+-- ---- the source: its floors, then the words of its table
 module _ (s : Sketch) (regs aux : List ℕ) (n : ℕ) (j : Joinable s regs aux n) where
-  finer : Finer n (2 ^ s .«lg_k»)
-  finer = record { target = record { lg = j .lg; power = j .power }; source = record { lg = s .«lg_k»; power = refl }; most = rw (j .power) (pow-mono (j .coarser)) }
+  target : Power n
+  target = record { lg = j .lg; power = j .power }
 
-  pub source-6 : s .kind ≡ 6 → Source6 n (s .«lg_k») (length regs)
-  source-6 e = record { finer = finer; shaped = kind-as (j .good .shaped) e }
+  pub joins-floors : Poured s (length regs) n
+  unfolding target
+  joins-floors = record { level = good-level s regs aux (j .good); target = target; least = j .least; coarser = j .coarser }
 
-  module _ (not-6 : s .kind ≡ 6 → ⊥) (not-4 : s .kind ≡ 4 → ⊥) where
-    pub is-8 : s .kind ≡ 8
-    is-8 = ⊎-elim (λ e. absurd (not-6 e)) (λ (e : s .kind ≡ 8). e) (six-or-eight (s .kind) (j .good .shaped .is-kind) not-4)
+  pub joins-words : {k : ℕ} → k ≡ n → Worded s (length aux) k
+  joins-words e = rw e (good-worded s regs aux (j .good) target)
 
-    pub source-8 : Finer n (length regs)
-    source-8 = rw (eight-long (j .good .shaped) is-8) finer
+  pub joins-all : (T : List ℕ) {after last : List ℕ} → after ≡ joined n T (floors s regs) → length after ≡ n → last ≡ fed (length after) after (tableIn s aux) → last ≡ joined n T (registers s regs aux)
+  joins-all T floored long q = q ∙ rw (long, floored, j .power) (floors-words (j .lg) (s .«lg_k») (good-floored s regs aux (j .good)) (j .coarser) T)
+
+  -- kind 8 as a source
+  pub source-8 : s .kind ≡ 8 → Finer n (length regs)
+  source-8 e = rw (eight-long (j .good .shaped) e) (record { target = target; source = record { lg = s .«lg_k»; power = refl }; most = rw (j .power) (pow-mono (j .coarser)) })
+
+-- ---- the same where nothing was
+module _ (s : Sketch) (regs aux : List ℕ) {n : ℕ} (u : Unpackable s regs aux n) where
+  pub whole-asks : Floor s (length regs) 0 n
+  whole-asks = whole-floor (good-level s regs aux (u .good)) (u .long)
+
+  pub whole-words : {k : ℕ} → k ≡ n → Worded s (length aux) k
+  whole-words e = rw e (good-worded s regs aux (u .good) (record { lg = s .«lg_k»; power = u .long }))
+
+  pub whole-all : {after last : List ℕ} → after ≡ take n (drop 0 (floors s regs)) → length after ≡ n → last ≡ fed (length after) after (tableIn s aux) → last ≡ registers s regs aux
+  whole-all floored long q = q ∙ rw (long, whole-floors s regs (u .long) floored, u .long) (fed-floors (good-floored s regs aux (u .good)))
 
 -- ---- the ladder
 module _ (t : Sketch) (tregs : List ℕ) (s : Sketch) (sregs saux : List ℕ) where
@@ -71,21 +91,31 @@ module _ (t : Sketch) (tregs : List ℕ) (s : Sketch) (sregs saux : List ℕ) wh
         long = eight-long (of-target .shaped) is-eight
 
         pub joinable : Joinable s sregs saux (length tregs)
-        joinable = record { good = check-ok true s sregs saux sbytes source; lg = t .«lg_k»; power = long; coarser = coarser }
+        joinable = record { good = check-ok true s sregs saux sbytes source; lg = t .«lg_k»; power = long; least = of-target .shaped .low; coarser = coarser }
 
         module _ {after : List ℕ} (joins : after ≡ joined (length tregs) tregs (registers s sregs saux)) where
-          -- no more registers than can be counted
-          pub after-few : length after ≤ 2 ^ 21
-          after-few = rw (joins, length-poured (length tregs) tregs 0 (registers s sregs saux), long) (pow-mono (of-target .shaped .high))
+          after-long : length after ≡ 2 ^ t .«lg_k»
+          after-long = rw joins (length-poured (length tregs) tregs 0 (registers s sregs saux) ∙ long)
 
-          pub merge-ok : {r : Sketch} {zeros : ℕ} → zeros ≡ countOf 0 after → r ≡ sketchOf 8 (t .«lg_k») 0 zeros 0 → out 0 r 0 after [] ≡ mergeOf t tregs s sregs saux
+          reads : registers t tregs [] ≡ tregs
+          reads = bytes-8 t tregs [] is-eight (of-target .shaped) tbytes
+
+          after-small : Small after
+          after-small = rw joins (poured-small (length tregs) tregs 0 (registers s sregs saux) (rw reads at (of-target .small)) (joinable .good .small))
+
+          -- no more registers than can be counted
+          pub after-cells : Cells 8 after
+          after-cells = record { width = record { is = inr refl }; few = rw after-long (pow-mono (of-target .shaped .high)) }
+
+          after-zeros : {zeros : ℕ} → zeros ≡ countOf 0 (unpacked 8 (1 * length after) after) → zeros ≡ countOf 0 after
+          after-zeros e =
+              let one : 1 * length after ≡ length after = omega arith in
+              e ∙ ap (countOf 0) (ap (λ (n : ℕ). unpacked 8 n after) one ∙ unpacked-8 after (at-all after (omega arith) (λ i l. omega (arith, after-small i l))))
+
+          pub merge-ok : {r : Sketch} {zeros : ℕ} → zeros ≡ countOf 0 (unpacked 8 (1 * length after) after) → r ≡ sketchOf 8 (t .«lg_k») 0 zeros 0 → out 0 r 0 after [] ≡ mergeOf t tregs s sregs saux
           unfolding mergeOf keptOut areaOf
           merge-ok {r} {zeros} e q =
-              let reads : registers t tregs [] ≡ tregs = bytes-8 t tregs [] is-eight (of-target .shaped) tbytes in
-              let kept =
-              eight-kept (t .«lg_k») zeros after
-              (rw joins (poured-small (length tregs) tregs 0 (registers s sregs saux) (rw reads at (of-target .small)) (joinable .good .small)))
-              (rw joins (length-poured (length tregs) tregs 0 (registers s sregs saux) ∙ long)) e in
+              let kept = eight-kept (t .«lg_k») zeros after after-small after-long (after-zeros e) in
               rw (
                 eq-eqb (mergeNo t tregs s sregs saux) 0 (merge-says t tregs s sregs saux .1 (eight-says t tregs .0 target, (source, coarser))),
                 reads,

@@ -12,14 +12,13 @@ use Rattle.model.specs.Packed.{Bytes}
 use Rattle.model.specs.Steps.{Ran, ran}
 use Rattle.model.specs.Four.{State, state}
 use Rattle.model.specs.Sketch.{sketchOf, areaOf, registers, tableIn}
-use Rattle.model.specs.Check.{shapeNo, scratchFits, checkNo}
+use Rattle.model.specs.Check.{goodOf, shapeNo, scratchFits, checkNo}
 use Rattle.model.specs.Calls.{Out, out, keptOut, startOf, stateOf, stepOf, feedOf, unpackOf, eightNo}
 use Rattle.model.specs.declared.Sketch.{Sketch}
 use Rattle.model.proofs.Ladder.{shape-says, check-says, first-one}
 use Rattle.model.proofs.Plain.{plain-cells}
 use Rattle.model.proofs.Starting.{record-zeros, stored-zeros, plain-ran}
 use Rattle.model.proofs.Kept.{check-ok, feed-line}
-use Rattle.array8.proofs.Plain.{plain-area}
 use Rattle.checks.proofs.Rungs.{rung-ok}
 use Rattle.sketch.specs.Asked.{Plain}
 use Rattle.sketch.specs.Given.{Kept, unpacked}
@@ -43,6 +42,11 @@ unfolding eightNo
 eight-check s regs e = rw (eq-eqb (s .kind) 8 e) (sym (first-one (checkNo true s regs [])) ∙ rung-ok 0 (checkNo true s regs [] ∷ []) refl)
 
 -- ---- feed
+-- kinds 6 and 8 have no area that could be damaged
+plain-area : (s : Sketch) (regs aux : List ℕ) → (s .kind ≡ 4 → ⊥) → goodOf s regs [] ≡ goodOf s regs aux
+unfolding goodOf
+plain-area s regs aux h = rw (ne-eqb (s .kind) 4 h)
+
 module _ (s : Sketch) (regs aux scratch : List ℕ) {fits : Bool} (lent : fits ≡ scratchFits (s .kind) aux scratch) where
   pub feed-no : (cs : List ℕ) {n : ℕ} → n ≡ checkNo fits s regs aux → (n ≡ 0 → ⊥) → out n s 0 regs aux ≡ feedOf s regs aux scratch cs
   unfolding feedOf
@@ -55,7 +59,7 @@ module _ (s : Sketch) (regs aux scratch : List ℕ) {fits : Bool} (lent : fits �
     four-spare k = leb-true (length aux) (length scratch) (rw (lent, eq-eqb (s .kind) 4 k) at (check-says fits s regs aux .0 e .1 .0))
 
     pub can-plain : (s .kind ≡ 4 → ⊥) → Plain s regs
-    can-plain k = let h = check-says fits s regs aux .0 e in record { not-4 = k; shaped = h .0; good = plain-area s regs [] aux k ∙ h .1 .1 }
+    can-plain k = let h = check-says fits s regs aux .0 e in record { not-4 = k; shaped = h .0; good = plain-area s regs aux k ∙ h .1 .1 }
 
     module _ (cs : List ℕ) where
       abbrev batch : ℕ → Ran State

@@ -21,10 +21,6 @@ use Rattle.checks.proofs.ByKind.{reads-6, eight-long}
 use Rattle.sketch.specs.Asked.{Plain}
 use Rattle.sketch.specs.Given.{Kept}
 
--- kind 6, unpacked
-pub six-unpacked : (s : Sketch) (regs aux : List ℕ) {n : ℕ} {after : List ℕ} → s .kind ≡ 6 → n ≡ 2 ^ s .«lg_k» → after ≡ unpacked 6 n regs → after ≡ registers s regs aux
-six-unpacked s regs aux e l q = rw (reads-6 s regs aux e, ← l) q
-
 -- kind 8 keeps the registers themselves
 pub eight-kept : (lgk zeros : ℕ) (R : List ℕ) → Small R → length R ≡ 2 ^ lgk → zeros ≡ countOf 0 R → Kept 8 lgk R (sketchOf 8 lgk 0 zeros 0) R
 unfolding recordOf lowOf stored bytesOf

@@ -24,4 +24,5 @@ pub record Joinable (s : Sketch) (regs aux : List ℕ) (n : ℕ) : Type 0 where
   pub good : Good s regs aux
   pub lg : ℕ
   pub power : n ≡ 2 ^ lg
+  pub least : 4 ≤ lg
   pub coarser : lg ≤ s .«lg_k»

@@ -182,19 +182,13 @@ fn is_count(len: usize, lg_k: u8) -> bool
     len == 1usize << lg_k
 }
 
+// Floors, and then the exceptions, word by word.
 fn unpack_good(s: Sketch, regs: &[u8], aux: &[u32], out: &mut [u8])
     requires { ⌜ Unpackable s (now regs) (now aux) (length (now out)) ⌝ }
     ensures { λ _. ⌜ now (out .exit) ≡ registers s (now (regs .entry)) (now (aux .entry)) ⌝ }
 {
-    if s.kind == 8 {
-        packed::eight::copy(regs, out);
-        return;
-    }
-    if s.kind == 6 {
-        array6::unpack(regs, out);
-        return;
-    }
-    array4_read::unpack(s, regs, aux, out);
+    blocks::floors(s, regs, 0, out);
+    blocks::raise_exceptions(s, aux, out);
 }
 
 pub fn unpack(sketch: Sketch, regs: &[u8], aux: &[u32], out: &mut [u8]) -> Answer
@@ -209,17 +203,22 @@ pub fn unpack(sketch: Sketch, regs: &[u8], aux: &[u32], out: &mut [u8]) -> Answe
     Answer::Ok
 }
 
-// Each kind goes straight into the target's registers, so no buffer is asked for. With as many registers no slot is reduced.
+// The same into registers that hold something already: no buffer is asked for.
+fn join_blocks(s: Sketch, regs: &[u8], aux: &[u32], target: &mut [u8])
+    requires { ⌜ Joinable s (now regs) (now aux) (length (now target)) ⌝ }
+    ensures { λ _. ⌜ now (target .exit) ≡ joined (length (now (target .entry))) (now (target .entry)) (registers s (now (regs .entry)) (now (aux .entry))) ⌝ }
+{
+    blocks::pour(s, regs, target);
+    blocks::raise_exceptions(s, aux, target);
+}
+
+// Kind 8 has its registers at hand, and takes half the time without blocks. With as many registers no slot is reduced.
 fn join(s: Sketch, regs: &[u8], aux: &[u32], target: &mut [u8])
     requires { ⌜ Joinable s (now regs) (now aux) (length (now target)) ⌝ }
     ensures { λ _. ⌜ now (target .exit) ≡ joined (length (now (target .entry))) (now (target .entry)) (registers s (now (regs .entry)) (now (aux .entry))) ⌝ }
 {
-    if s.kind == 6 {
-        array6::merge_into(target, regs, s.lg_k);
-        return;
-    }
-    if s.kind == 4 {
-        array4_read::merge_into(s, regs, aux, target);
+    if s.kind != 8 {
+        join_blocks(s, regs, aux, target);
         return;
     }
     if target.len() == regs.len() {
@@ -253,7 +252,7 @@ pub fn merge(target: Sketch, tregs: &mut [u8], source: Sketch, sregs: &[u8], sau
         };
     }
     join(source, sregs, saux, tregs);
-    let left = array8::count_zeros(tregs);
+    let left = survey_whole::count(8, tregs, 0);
     Made {
         answer: Answer::Ok,
         sketch: plain(8, target.lg_k, left),

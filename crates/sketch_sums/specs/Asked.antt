@@ -1,11 +1,17 @@
--- What counting the registers of kind 4 asks.
-use mathlib.Core.Path.{_≡_}
+-- What counting the floors asks.
 use mathlib.Core.List.{List}
-use Prim.Native.Nat.{ℕ}
-use Rattle.model.specs.Sketch.{Good}
+use Prim.Native.Nat.{ℕ, _≤_, _<_}
+use lib.ListN.{length, getD}
+use Rattle.model.specs.Sketch.{floors}
 use Rattle.model.specs.declared.Sketch.{Sketch}
+use Rattle.blocks.specs.Asked.{Level, Long}
 
--- a sketch of kind 4, in good order
-pub record Countable4 (s : Sketch) (regs aux : List ℕ) : Type 0 where
-  pub four : s .kind ≡ 4
-  pub good : Good s regs aux
+-- register bytes with a cur_min above which no cell is past 63, as in good order
+pub record Small (s : Sketch) (regs : List ℕ) : Type 0 where
+  pub level : Level s (length regs)
+  pub small : (i : ℕ) → i < length (floors s regs) → getD (floors s regs) i 0 ≤ 63
+
+-- the same, and a length of blocks
+pub record Countable (s : Sketch) (regs : List ℕ) (m : ℕ) : Type 0 where
+  pub flat : Small s regs
+  pub long : Long (s .«lg_k») m

@@ -2,54 +2,53 @@
 use model::Sketch;
 use sums::Sums;
 ghost use mathlib.Core.Path.{_≡_};
-ghost use Prim.Native.Nat.{_^_};
 ghost use lib.ListN.{length};
-ghost use Rattle.model.specs.Packed.{unpacked};
-ghost use Rattle.model.specs.Sketch.{registers, Shaped, Good};
+ghost use Rattle.model.specs.Sketch.{floors, registers, Good};
 ghost use Rattle.model.specs.Calls.{sumsOf};
 ghost use Rattle.sums.specs.Tally.{Counted, summed};
-ghost use Rattle.sketch_sums.specs.Asked.{Countable4};
+ghost use Rattle.sketch_sums.specs.Asked.{Small, Countable};
 
-// The registers of kind 6, one after the other, without a buffer to unpack them into.
-fn counts_six(lg_k: u8, regs: &[u8]) -> [u32; 64]
-    requires { ⌜ Shaped 6 «lg_k» (length (now regs)) ⌝ }
-    ensures { λ r. ⌜ Counted (unpacked 6 (2 ^ «lg_k») (now (regs .entry))) r ⌝ }
-{
-    let k = array8::num_registers(lg_k);
-    let mut six = [0u32; 64];
-    let mut slot = 0;
-    while slot < k {
-        sums::count_in(&mut six, array6::get(regs, slot as u32));
-        slot += 1;
-    }
-    six
-}
-
-fn counts_four(s: Sketch, regs: &[u8], aux: &[u32]) -> [u32; 64]
-    requires { ⌜ Countable4 s (now regs) (now aux) ⌝ }
-    ensures { λ r. ⌜ Counted (registers s (now (regs .entry)) (now (aux .entry))) r ⌝ }
+// By blocks as long as `some`, which is lent for them alone.
+fn count_by(s: Sketch, regs: &[u8], some: &mut [u8]) -> [u32; 64]
+    requires { ⌜ Countable s (now regs) (length (now some)) ⌝ }
+    ensures { λ r. ⌜ Counted (floors s (now (regs .entry))) r ⌝ }
 {
     let k = array8::num_registers(s.lg_k);
-    let mut four = [0u32; 64];
-    let mut slot = 0;
-    while slot < k {
-        sums::count_in(&mut four, array4_read::get(s, regs, aux, slot as u32));
-        slot += 1;
+    let mut seen = [0u32; 64];
+    let mut from = 0;
+    while from < k {
+        blocks::floors(s, regs, from, some);
+        sums::count_all(&mut seen, some);
+        from += some.len();
     }
-    four
+    seen
 }
 
+fn count_floors(s: Sketch, regs: &[u8]) -> [u32; 64]
+    requires { ⌜ Small s (now regs) ⌝ }
+    ensures { λ r. ⌜ Counted (floors s (now (regs .entry))) r ⌝ }
+{
+    let mut some = [0u8; 256];
+    let n = blocks::block_len(array8::num_registers(s.lg_k));
+    count_by(s, regs, &mut some[..n])
+}
+
+// Each word of the table moves one register from its floor, which is cur_min + 15, to the word's value: no search.
 pub fn counts(s: Sketch, regs: &[u8], aux: &[u32]) -> [u32; 64]
     requires { ⌜ Good s (now regs) (now aux) ⌝ }
     ensures { λ r. ⌜ Counted (registers s (now (regs .entry)) (now (aux .entry))) r ⌝ }
 {
-    if s.kind == 8 {
-        return sums::counts(regs);
+    let mut seen = count_floors(s, regs);
+    if s.kind != 4 {
+        return seen;
     }
-    if s.kind == 6 {
-        return counts_six(s.lg_k, regs);
+    let size = array4_read::table_len(s);
+    let moved = sums::count_words(&mut seen, &aux[..size]);
+    if moved == 0 {
+        return seen;
     }
-    counts_four(s, regs, aux)
+    sums::count_out(&mut seen, s.cur_min + 15, moved);
+    seen
 }
 
 // Where a check refuses, both sums are +0.

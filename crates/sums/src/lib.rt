@@ -5,10 +5,11 @@ ghost use mathlib.Core.Bool.{not};
 ghost use mathlib.Core.List.{List, [], _∷_, _++_};
 ghost use Prim.Native.Nat.{ℕ, _≤_, _<_};
 ghost use lib.Dec.{T};
+ghost use lib.ListN.{length, getD};
 ghost use lib.Ieee.{binary64, isNan, toBits};
 ghost use Rattle.model.specs.Packed.{digits};
 ghost use Rattle.model.specs.Sums.{scaled};
-ghost use Rattle.sums.specs.Tally.{Counted, FewCounted, Registers, summed, sumsFor};
+ghost use Rattle.sums.specs.Tally.{Counted, FewCounted, Registers, Room, Countable, said, CountedWords, Less, summed, sumsFor};
 
 pub struct Sums {
     pub answer: u8,
@@ -18,7 +19,7 @@ pub struct Sums {
 
 // One register more, of value v, in counts that a loop lends: handed on by value they would be copied at each register.
 pub fn count_in(counts: &mut [u32; 64], v: u8)
-    requires { ⌜ (v < 64) × FewCounted (now counts) ⌝ }
+    requires { ⌜ (v < 64) × Room (now counts) 0 ⌝ }
     ensures { λ _. ⌜ ((R : List ℕ) → Counted R (now (counts .entry)) → Counted (R ++ (v ∷ [])) (now (counts .exit))) ⌝ }
 {
     let at = v as usize;
@@ -27,7 +28,7 @@ pub fn count_in(counts: &mut [u32; 64], v: u8)
 
 // The same by value, where one register is counted and no loop.
 pub fn count_one(counts: [u32; 64], v: u8) -> [u32; 64]
-    requires { ⌜ (v < 64) × FewCounted counts ⌝ }
+    requires { ⌜ (v < 64) × Room counts 0 ⌝ }
     ensures { λ r. ⌜ ((R : List ℕ) → Counted R counts → Counted (R ++ (v ∷ [])) r) ⌝ }
 {
     let mut more = counts;
@@ -35,17 +36,60 @@ pub fn count_one(counts: [u32; 64], v: u8) -> [u32; 64]
     more
 }
 
-// Kind 8's registers, a byte each. The other kinds count as they unpack, by `count_in`.
+// Registers counted in, one after the other.
+pub fn count_all(counts: &mut [u32; 64], regs: &[u8])
+    requires { ⌜ Countable (now counts) (now regs) ⌝ }
+    ensures { λ _. ⌜ ((R : List ℕ) → Counted R (now (counts .entry)) → Counted (R ++ now (regs .entry)) (now (counts .exit))) ⌝ }
+{
+    let mut i = 0;
+    while i < regs.len() {
+        count_in(counts, regs[i]);
+        i += 1;
+    }
+}
+
+fn count_word(counts: &mut [u32; 64], word: u32) -> u32
+    requires { ⌜ Room (now counts) 0 ⌝ }
+    ensures { λ r. ⌜ CountedWords (now (counts .entry)) (word ∷ []) (now (counts .exit)) r ⌝ }
+{
+    let value = array8::coupon::value(word);
+    if value == 0 {
+        return 0;
+    }
+    count_in(counts, value);
+    1
+}
+
+// The words of an exception table, each as a register of its value; how many are not empty.
+pub fn count_words(counts: &mut [u32; 64], words: &[u32]) -> u32
+    requires { ⌜ Room (now counts) (length (said (now words))) ⌝ }
+    ensures { λ r. ⌜ CountedWords (now (counts .entry)) (now (words .entry)) (now (counts .exit)) r ⌝ }
+{
+    let mut many: u32 = 0;
+    let mut i = 0;
+    while i < words.len() {
+        many += count_word(counts, words[i]);
+        i += 1;
+    }
+    many
+}
+
+// So many registers of value v taken out.
+pub fn count_out(counts: &mut [u32; 64], v: u8, many: u32)
+    requires { ⌜ (v < 64) × (many ≤ getD (now counts) v 0) ⌝ }
+    ensures { λ _. ⌜ ((L R : List ℕ) → Counted L (now (counts .entry)) → Less v many L R → Counted R (now (counts .exit))) ⌝ }
+{
+    let at = v as usize;
+    counts[at] = counts[at] - many;
+}
+
+// All at once.
 pub fn counts(regs: &[u8]) -> [u32; 64]
     requires { ⌜ Registers (now regs) ⌝ }
     ensures { λ r. ⌜ Counted (now (regs .entry)) r ⌝ }
 {
     let mut seen = [0u32; 64];
-    let mut i = 0;
-    while i < regs.len() {
-        count_in(&mut seen, regs[i]);
-        i += 1;
-    }
+    count_all(&mut seen, regs);
     seen
 }
 

@@ -1,7 +1,7 @@
 -- `array6::update` meets its contract: the coupon changes nothing, is the first for its register, or a larger one. Assumes nothing.
 use native.Mathlib.Omega.{arith}
 use Rattle.array8.proofs.Masks.{home-in}
-use Rattle.array6.proofs.Cells.{inside-6}
+use Rattle.array6.proofs.Six.{inside-6}
 use Rattle.array6.proofs.Coupons.{coupon-stays, coupon-first, coupon-again}
 use borrow.Author.Needs.{needs}
 use Rattle.array6.proofs.update.Statement.{statement}

@@ -1,34 +1,50 @@
--- `checks::is_good` meets its contract: each kind by its own check. Assumes nothing.
-use mathlib.Core.Path.{_∙_}
-use native.Mathlib.Omega.{arith}
-use Rattle.array8.proofs.Plain.{plain-area}
-use Rattle.checks.proofs.ByKind.{kind-as, last-kind}
+-- `checks::is_good` meets its contract: the survey's tests are the book's, and the table's is the last. Assumes nothing.
+use mathlib.Core.Path.{sym, _∙_}
+use borrow.Author.Tests.{not-true, not-false}
 use borrow.Author.Needs.{needs}
+use Rattle.checks.proofs.Goods.{no-counts, no-values, no-spare, no-tally, plain-good, can-check, table-good}
 use Rattle.checks.proofs.is_good.Statement.{statement}
 use Rattle.checks.proofs.is_good.Tie as tie
 
-is-good-requires : tie.Need-is-good-requires
-is-good-requires c κs = record { of-kind = c .if1 .taken; shaped = kind-as (c .before .before .before .before .pre) (c .if1 .taken) }
+counts-fit-requires : tie.Need-counts-fit-requires
+counts-fit-requires c κs = search needs
 
 returns : tie.Need-returns
-returns c = c .is-good .ensures ∙ plain-area _ _ _ _ (λ e. omega arith)
+returns c = no-counts _ _ _ (c .before .counts-fit .ensures) (not-true _ (c .if1 .taken))
 
-is-good-requires-2 : tie.Need-is-good-requires-2
-is-good-requires-2 c κs = record { of-kind = c .if2 .taken; shaped = kind-as (c .before .before .before .before .before .before .pre) (c .if2 .taken) }
+survey-requires : tie.Need-survey-requires
+survey-requires c κs = record { shaped = c .before .before .before .before .pre; counts = sym (c .before .counts-fit .ensures) ∙ not-false _ (c .if1 .left) }
 
 returns-2 : tie.Need-returns-2
-returns-2 c = c .is-good2 .ensures ∙ plain-area _ _ _ _ (λ e. omega arith)
-
-is-good-requires-3 : tie.Need-is-good-requires-3
-is-good-requires-3 c κs =
-    let shaped = c .before .before .before .before .before .before .pre in
-    let four = last-kind _ (shaped .is-kind) (c .before .before .if1 .left) (c .if2 .left) in
-    record { four = four; shaped = kind-as shaped four }
+returns-2 c = no-values _ _ _ (c .before .before .before .before .counts-fit .ensures) (c .before .before .survey .ensures) (not-true _ (c .if2 .taken))
 
 returns-3 : tie.Need-returns-3
-returns-3 c = search needs
+returns-3 c = no-spare _ _ _ (c .before .before .before .before .before .before .counts-fit .ensures) (c .before .before .before .before .survey .ensures) (not-true _ (c .if3 .taken))
+
+returns-4 : tie.Need-returns-4
+returns-4 c = no-tally _ _ _ (c .before .before .before .before .before .before .before .before .counts-fit .ensures) (c .before .before .before .before .before .before .survey .ensures) (not-true _ (c .if4 .taken))
+
+returns-5 : tie.Need-returns-5
+returns-5 c =
+    plain-good _ _ _ (c .before .before .before .before .before .before .before .before .before .before .counts-fit .ensures) (c .before .before .before .before .before .before .before .before .survey .ensures) (not-false _ (c .before .before .before .before .before .before .before .before .before .if1 .left)) (not-false _ (c .before .before .before .before .before .before .if2 .left)) (not-false _ (c .before .before .before .before .if3 .left)) (not-false _ (c .before .before .if4 .left)) (c .if5 .taken)
+
+table-fits-requires : tie.Need-table-fits-requires
+table-fits-requires c κs = can-check _ _ (c .before .before .before .before .before .before .before .before .before .before .counts-fit .ensures) (not-false _ (c .before .before .before .before .before .before .before .before .before .if1 .left)) (c .before .before .before .before .before .before .before .before .survey .ensures) (c .before .before .before .before .before .before .before .before .before .before .before .before .before .pre) (c .if5 .left)
+
+returns-6 : tie.Need-returns-6
+returns-6 c =
+    table-good _ _ _ (c .before .before .before .before .before .before .before .before .before .before .before .counts-fit .ensures) (c .before .before .before .before .before .before .before .before .before .survey .ensures) (not-false _ (c .before .before .before .before .before .before .before .before .before .before .if1 .left)) (not-false _ (c .before .before .before .before .before .before .before .if2 .left)) (not-false _ (c .before .before .before .before .before .if3 .left)) (not-false _ (c .before .before .before .if4 .left)) (c .before .if5 .left) (c .table-fits .ensures)
 
 pub is-good-spec : {M : Type 1} → statement M
 is-good-spec =
     tie.close
-    (tie.spec is-good-requires returns is-good-requires-2 returns-2 is-good-requires-3 returns-3)
+    (tie.spec
+    counts-fit-requires
+    returns
+    survey-requires
+    returns-2
+    returns-3
+    returns-4
+    returns-5
+    table-fits-requires
+    returns-6)

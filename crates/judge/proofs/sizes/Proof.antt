@@ -13,7 +13,7 @@ use Rattle.model.specs.Image.{wordCount}
 use Rattle.model.specs.declared.Sketch.{Sketch}
 use Rattle.model.proofs.Tests.{counts-tells}
 use Rattle.aux_map.proofs.Bases.{sizable}
-use Rattle.judge_tally.proofs.Sweep.{bytes-few}
+use Rattle.survey.proofs.Cells.{bytes-few}
 use Rattle.judge.specs.Ladder.{formFits, sizesNo}
 use Rattle.judge.proofs.Rungs.{pass, stop, done}
 use Rattle.judge.proofs.Header.{words-few}

@@ -12,7 +12,7 @@ feed-requires : tie.Need-feed-requires
 feed-requires c κs =
     let pre = c .before .before .before .before .before .pre in
     let lent : Lent 8 _ _ = record { of-kind = c .before .if1 .taken; shaped = kind-as (pre .shaped) (c .before .if1 .taken) } in
-    eight-ready lent (λ i. c .before .before .before .before .slice-known .given i .fits) (pre .good)
+    eight-ready lent (λ i. c .before .before .before .before .slice-known .given i .fits) _ (pre .good)
 
 plain-requires : tie.Need-plain-requires
 plain-requires c κs = search needs
@@ -28,7 +28,7 @@ feed-requires-2 c κs =
     let pre = c .before .before .before .before .before .pre in
     let six = is-6 pre (c .before .if1 .left) in
     let lent : Lent 6 _ _ = record { of-kind = six; shaped = kind-as (pre .shaped) six } in
-    six-ready lent (pre .good)
+    six-ready lent _ (pre .good)
 
 plain-requires-2 : tie.Need-plain-requires-2
 plain-requires-2 c κs = search needs

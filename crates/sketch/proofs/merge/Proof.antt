@@ -4,7 +4,7 @@ use mathlib.Core.Bool.{true}
 use denote.Ref.{now}
 use Rattle.model.specs.Check.{checkNo}
 use Rattle.model.specs.Calls.{eightNo}
-use Rattle.sketch.proofs.Merging.{merge-target, merge-source, merge-finer, joinable, after-few, merge-ok}
+use Rattle.sketch.proofs.Merging.{merge-target, merge-source, merge-finer, joinable, after-cells, merge-ok}
 use borrow.Author.Needs.{needs}
 use Rattle.sketch.proofs.merge.Statement.{statement}
 use Rattle.sketch.proofs.merge.Tie as tie
@@ -48,8 +48,8 @@ returns-3 c = merge-finer _ _ _ _ _ (target-ok (c .before .before .before .befor
 join-requires : tie.Need-join-requires
 join-requires c κs = joinable _ _ _ _ _ (target-ok (c .before .before .before .before .before .before .before)) (source-ok (c .before .before .before .before)) (c .before .if3 .left) (λ i. c .before .before .before .before .before .before .before .before .before .before .before .before .before .slice-known .given i .fits) (λ i. c .before .before .before .before .before .before .before .before .before .before .before .before .shared-slice-known .given i .fits)
 
-count-zeros-requires : tie.Need-count-zeros-requires
-count-zeros-requires c κs = after-few _ _ _ _ _ (target-ok (c .before .before .before .before .before .before .before .before .before .before .before)) (source-ok (c .before .before .before .before .before .before .before .before)) (c .before .before .before .before .before .if3 .left) (λ i. c .before .before .before .before .before .before .before .before .before .before .before .before .before .before .before .before .before .slice-known .given i .fits) (λ i. c .before .before .before .before .before .before .before .before .before .before .before .before .before .before .before .before .shared-slice-known .given i .fits) (c .before .before .before .join .ensures)
+count-requires : tie.Need-count-requires
+count-requires c κs = after-cells _ _ _ _ _ (target-ok (c .before .before .before .before .before .before .before .before .before .before .before)) (source-ok (c .before .before .before .before .before .before .before .before)) (c .before .before .before .before .before .if3 .left) (λ i. c .before .before .before .before .before .before .before .before .before .before .before .before .before .before .before .before .before .slice-known .given i .fits) (λ i. c .before .before .before .before .before .before .before .before .before .before .before .before .before .before .before .before .shared-slice-known .given i .fits) (c .before .before .before .join .ensures)
 
 plain-requires : tie.Need-plain-requires
 plain-requires c κs = search needs
@@ -60,7 +60,7 @@ same-length-4 c = search needs
 returns-4 : tie.Need-returns-4
 returns-4 c =
     merge-ok _ _ _ _ _ (target-ok (c .before .before .before .before .before .before .before .before .before .before .before .before .before)) (source-ok (c .before .before .before .before .before .before .before .before .before .before)) (c .before .before .before .before .before .before .before .if3 .left) (λ i. c .before .before .before .before .before .before .before .before .before .before .before .before .before .before .before .before .before .before .before .slice-known .given i .fits) (λ i. c .before .before .before .before .before .before .before .before .before .before .before .before .before .before .before .before .before .before .shared-slice-known .given i .fits)
-    (c .before .before .before .before .before .join .ensures) (c .before .count-zeros .ensures) (c .plain .ensures)
+    (c .before .before .before .before .before .join .ensures) (c .before .count .ensures) (c .plain .ensures)
 
 pub merge-spec : {M : Type 1} → statement M
 merge-spec =
@@ -77,7 +77,7 @@ merge-spec =
     same-length-3
     returns-3
     join-requires
-    count-zeros-requires
+    count-requires
     plain-requires
     same-length-4
     returns-4)

@@ -1,33 +1,56 @@
--- `sketch_sums::counts` meets its contract: each kind's own way, over what its bytes read as. Assumes nothing.
+-- `sketch_sums::counts` meets its contract: the floors counted, and one register moved for each word. Assumes nothing.
+use mathlib.Core.Path.{_≡_}
+use native.Mathlib.Omega.{arith}
+use lib.ListN.{take}
 use denote.Ref.{now}
-use Rattle.model.proofs.Plain.{bytes-8}
-use Rattle.checks.proofs.ByKind.{kind-as, last-kind, reads-6}
-use Rattle.sketch_sums.proofs.Outcomes.{eight-registers}
+use Rattle.model.specs.Sketch.{tableIn}
+use Rattle.array4_read.proofs.Held as held
+use Rattle.sketch_sums.proofs.Turns.{good-small, plain-counted, words-room, none-moved, top-is, top-many, words-moved}
 use borrow.Author.Needs.{needs}
 use Rattle.sketch_sums.proofs.counts.Statement.{statement}
 use Rattle.sketch_sums.proofs.counts.Tie as tie
 
-counts-requires : tie.Need-counts-requires
-counts-requires c κs = eight-registers (c .before .before .before .before .args .s) _ (now (c .before .before .before .before .args .aux)) (c .if1 .taken) (λ i. c .before .before .before .shared-slice-known .given i .fits) (c .before .before .before .before .pre)
+count-floors-requires : tie.Need-count-floors-requires
+count-floors-requires c κs = good-small _ _ _ (c .before .before .pre)
 
 returns : tie.Need-returns
-returns c =
-    let a = c .before .before .before .before .before .args in
-    rw (bytes-8 (a .s) (now (a .regs)) (now (a .aux)) (c .before .if1 .taken) (c .before .before .before .before .before .pre .shaped) (λ i. c .before .before .before .before .shared-slice-known .given i .fits)) (c .counts .ensures)
+returns c = plain-counted _ _ _ (c .before .before .before .before .before .pre) (c .if1 .taken) (c .before .before .count-floors .ensures)
 
-counts-six-requires : tie.Need-counts-six-requires
-counts-six-requires c κs = kind-as (c .before .before .before .before .before .before .pre .shaped) (c .if2 .taken)
+table-len-requires : tie.Need-table-len-requires
+table-len-requires c κs = held.tabulated _ _ _ (c .if1 .left) (c .before .before .before .before .before .pre)
+
+-- the table is the area's front
+front : (c : tie.After-table-len) → let a = c .before .before .before .before .before .before .args in take (c .table-len .result) (now (a .aux)) ≡ tableIn (a .s) (now (a .aux))
+front c = held.front _ _ _ (c .before .if1 .left) (c .before .before .before .before .before .before .pre) _ (c .table-len .ensures)
+
+slice-aggregate-count-words : tie.Need-slice-aggregate-count-words
+slice-aggregate-count-words c = held.part _ _ _ (c .before .before .before .if1 .left) (c .before .before .before .before .before .before .before .before .pre) _ (c .before .before .table-len .ensures)
+
+count-words-requires : tie.Need-count-words-requires
+count-words-requires c κs = words-room _ _ _ (c .before .before .before .before .before .before .before .before .pre) (c .before .before .before .if1 .left) (c .before .before .before .before .before .count-floors .ensures) (front (c .before .before))
 
 returns-2 : tie.Need-returns-2
-returns-2 c = let a = c .before .before .before .before .before .before .before .args in rw (reads-6 (a .s) (now (a .regs)) (now (a .aux)) (c .before .if2 .taken)) (c .counts-six .ensures)
+returns-2 c = none-moved _ _ _ (c .before .before .before .before .before .before .before .before .before .before .pre) (c .before .before .before .before .before .if1 .left) (c .before .before .before .before .before .before .before .count-floors .ensures) (front (c .before .before .before .before)) (c .before .count-words .ensures) (c .if2 .taken)
 
-counts-four-requires : tie.Need-counts-four-requires
-counts-four-requires c κs = record { four = last-kind _ (c .before .before .before .before .before .before .pre .shaped .is-kind) (c .before .before .if1 .left) (c .if2 .left); good = c .before .before .before .before .before .before .pre }
+add-count-out : tie.Need-add-count-out
+add-count-out c = omega (arith, top-is _ _ _ (c .before .before .before .before .before .before .before .before .before .before .before .before .pre) (c .before .before .before .before .before .before .before .if1 .left) (c .before .before .before .before .before .before .before .before .before .count-floors .ensures) (front (c .before .before .before .before .before .before)) (c .before .before .before .count-words .ensures) (c .before .before .if2 .left))
+
+count-out-requires : tie.Need-count-out-requires
+count-out-requires c κs = (top-is _ _ _ (c .before .before .before .before .before .before .before .before .before .before .before .before .pre) (c .before .before .before .before .before .before .before .if1 .left) (c .before .before .before .before .before .before .before .before .before .count-floors .ensures) (front (c .before .before .before .before .before .before)) (c .before .before .before .count-words .ensures) (c .before .before .if2 .left), top-many _ _ _ (c .before .before .before .before .before .before .before .before .before .before .before .before .pre) (c .before .before .before .before .before .before .before .if1 .left) (c .before .before .before .before .before .before .before .before .before .count-floors .ensures) (front (c .before .before .before .before .before .before)) (c .before .before .before .count-words .ensures) (c .before .before .if2 .left))
 
 returns-3 : tie.Need-returns-3
-returns-3 c = search needs
+returns-3 c = words-moved _ _ _ (c .before .before .before .before .before .before .before .before .before .before .before .before .before .pre) (c .before .before .before .before .before .before .before .before .if1 .left) (c .before .before .before .before .before .before .before .before .before .before .count-floors .ensures) (front (c .before .before .before .before .before .before .before)) (c .before .before .before .before .count-words .ensures) (c .before .before .before .if2 .left) (c .count-out .ensures)
 
 pub counts-spec : {M : Type 1} → statement M
 counts-spec =
     tie.close
-    (tie.spec counts-requires returns counts-six-requires returns-2 counts-four-requires returns-3)
+    (tie.spec
+    count-floors-requires
+    returns
+    table-len-requires
+    slice-aggregate-count-words
+    count-words-requires
+    returns-2
+    add-count-out
+    count-out-requires
+    returns-3)

@@ -1,0 +1,42 @@
+-- `blocks::pour` meets its contract. Assumes nothing.
+use Prim.Native.Nat.{ℕ, _≤_}
+use Rattle.model.specs.declared.Sketch.{Sketch}
+use Rattle.array8.specs.Asked.{Power}
+use Rattle.blocks.specs.Asked.{Long, Poured}
+use Rattle.blocks.proofs.Levels.{buffer-long}
+use Rattle.blocks.proofs.pour.Statement.{statement}
+use Rattle.blocks.proofs.pour.Tie as tie
+use borrow.Author.Needs.{needs}
+
+-- the length of the blocks
+long : {s : Sketch} {n t m : ℕ} (p : Poured s n t) → ((q : Power t) → 4 ≤ q .lg → Long (q .lg) m) → Long (p .target .lg) m
+long p f = f (p .target) (p .least)
+
+block-len-requires : tie.Need-block-len-requires
+block-len-requires c κs = search needs
+
+array-borrow-prefix-some : tie.Need-array-borrow-prefix-some
+array-borrow-prefix-some c = long (c .before .before .before .pre) (c .block-len .ensures) .small
+
+slice-aggregate-pour-by : tie.Need-slice-aggregate-pour-by
+slice-aggregate-pour-by c = buffer-long (long (c .before .before .before .before .pre) (c .before .block-len .ensures))
+
+pour-by-requires : tie.Need-pour-by-requires
+pour-by-requires c κs = let all = long (c .before .before .before .before .before .pre) (c .before .before .block-len .ensures) in rw (← buffer-long all) (record { poured = c .before .before .before .before .before .pre; long = all })
+
+same-length : tie.Need-same-length
+same-length c = search needs
+
+returns : tie.Need-returns
+returns c = search needs
+
+pub pour-spec : {M : Type 1} → statement M
+pour-spec =
+    tie.close
+    (tie.spec
+    block-len-requires
+    array-borrow-prefix-some
+    slice-aggregate-pour-by
+    pour-by-requires
+    same-length
+    returns)
