@@ -61,6 +61,14 @@ module _ (s : Sketch) (regs aux : List ℕ) {n : ℕ} (u : Unpackable s regs aux
   whole-all floored long q = q ∙ rw (long, whole-floors s regs (u .long) floored, u .long) (fed-floors (good-floored s regs aux (u .good)))
 
 -- ---- the ladder
+-- what is known where nothing is refused
+pub record Accepted (t : Sketch) (tregs : List ℕ) (s : Sketch) (sregs saux : List ℕ) : Type 0 where
+  pub target : eightNo t tregs ≡ 0
+  pub source : checkNo true s sregs saux ≡ 0
+  pub coarser : t .«lg_k» ≤ s .«lg_k»
+  pub tbytes : Bytes tregs
+  pub sbytes : Bytes sregs
+
 module _ (t : Sketch) (tregs : List ℕ) (s : Sketch) (sregs saux : List ℕ) where
   merge-no : {n : ℕ} → n ≡ mergeNo t tregs s sregs saux → (n ≡ 0 → ⊥) → out n t 0 tregs [] ≡ mergeOf t tregs s sregs saux
   unfolding mergeOf
@@ -80,48 +88,48 @@ module _ (t : Sketch) (tregs : List ℕ) (s : Sketch) (sregs saux : List ℕ) wh
       unfolding mergeNo firstOf
       merge-finer h = merge-no (rw (eq-eqb (eightNo t tregs) 0 target, eq-eqb (checkNo true s sregs saux) 0 source, lt-leb (t .«lg_k») (s .«lg_k») h)) (λ e. omega arith)
 
-      module _ (coarser : t .«lg_k» ≤ s .«lg_k») (tbytes : Bytes tregs) (sbytes : Bytes sregs) where
-        of-target : Good t tregs []
-        of-target = check-ok true t tregs [] tbytes (eight-says t tregs .0 target .1)
+module _ {t : Sketch} {tregs : List ℕ} {s : Sketch} {sregs saux : List ℕ} (ok : Accepted t tregs s sregs saux) where
+  of-target : Good t tregs []
+  of-target = check-ok true t tregs [] (ok .tbytes) (eight-says t tregs .0 (ok .target) .1)
 
-        is-eight : t .kind ≡ 8
-        is-eight = eight-says t tregs .0 target .0
+  is-eight : t .kind ≡ 8
+  is-eight = eight-says t tregs .0 (ok .target) .0
 
-        long : length tregs ≡ 2 ^ t .«lg_k»
-        long = eight-long (of-target .shaped) is-eight
+  long : length tregs ≡ 2 ^ t .«lg_k»
+  long = eight-long (of-target .shaped) is-eight
 
-        pub joinable : Joinable s sregs saux (length tregs)
-        joinable = record { good = check-ok true s sregs saux sbytes source; lg = t .«lg_k»; power = long; least = of-target .shaped .low; coarser = coarser }
+  pub joinable : Joinable s sregs saux (length tregs)
+  joinable = record { good = check-ok true s sregs saux (ok .sbytes) (ok .source); lg = t .«lg_k»; power = long; least = of-target .shaped .low; coarser = ok .coarser }
 
-        module _ {after : List ℕ} (joins : after ≡ joined (length tregs) tregs (registers s sregs saux)) where
-          after-long : length after ≡ 2 ^ t .«lg_k»
-          after-long = rw joins (length-poured (length tregs) tregs 0 (registers s sregs saux) ∙ long)
+  module _ {after : List ℕ} (joins : after ≡ joined (length tregs) tregs (registers s sregs saux)) where
+    after-long : length after ≡ 2 ^ t .«lg_k»
+    after-long = rw joins (length-poured (length tregs) tregs 0 (registers s sregs saux) ∙ long)
 
-          reads : registers t tregs [] ≡ tregs
-          reads = bytes-8 t tregs [] is-eight (of-target .shaped) tbytes
+    reads : registers t tregs [] ≡ tregs
+    reads = bytes-8 t tregs [] is-eight (of-target .shaped) (ok .tbytes)
 
-          after-small : Small after
-          after-small = rw joins (poured-small (length tregs) tregs 0 (registers s sregs saux) (rw reads at (of-target .small)) (joinable .good .small))
+    after-small : Small after
+    after-small = rw joins (poured-small (length tregs) tregs 0 (registers s sregs saux) (rw reads at (of-target .small)) (joinable .good .small))
 
-          -- no more registers than can be counted
-          pub after-cells : Cells 8 after
-          after-cells = record { width = record { is = inr refl }; few = rw after-long (pow-mono (of-target .shaped .high)) }
+    -- no more registers than can be counted
+    pub after-cells : Cells 8 after
+    after-cells = record { width = record { is = inr refl }; few = rw after-long (pow-mono (of-target .shaped .high)) }
 
-          after-zeros : {zeros : ℕ} → zeros ≡ countOf 0 (unpacked 8 (1 * length after) after) → zeros ≡ countOf 0 after
-          after-zeros e =
-              let one : 1 * length after ≡ length after = omega arith in
-              e ∙ ap (countOf 0) (ap (λ (n : ℕ). unpacked 8 n after) one ∙ unpacked-8 after (at-all after (omega arith) (λ i l. omega (arith, after-small i l))))
+    after-zeros : {zeros : ℕ} → zeros ≡ countOf 0 (unpacked 8 (1 * length after) after) → zeros ≡ countOf 0 after
+    after-zeros e =
+        let one : 1 * length after ≡ length after = omega arith in
+        e ∙ ap (countOf 0) (ap (λ (n : ℕ). unpacked 8 n after) one ∙ unpacked-8 after (at-all after (omega arith) (λ i l. omega (arith, after-small i l))))
 
-          pub merge-ok : {r : Sketch} {zeros : ℕ} → zeros ≡ countOf 0 (unpacked 8 (1 * length after) after) → r ≡ sketchOf 8 (t .«lg_k») 0 zeros 0 → out 0 r 0 after [] ≡ mergeOf t tregs s sregs saux
-          unfolding mergeOf keptOut areaOf
-          merge-ok {r} {zeros} e q =
-              let kept = eight-kept (t .«lg_k») zeros after after-small after-long (after-zeros e) in
-              rw (
-                eq-eqb (mergeNo t tregs s sregs saux) 0 (merge-says t tregs s sregs saux .1 (eight-says t tregs .0 target, (source, coarser))),
-                reads,
-                ← long,
-                ← joins,
-                q,
-                kept .record-is,
-                ← kept .bytes-are,
-              )
+    pub merge-ok : {r : Sketch} {zeros : ℕ} → zeros ≡ countOf 0 (unpacked 8 (1 * length after) after) → r ≡ sketchOf 8 (t .«lg_k») 0 zeros 0 → out 0 r 0 after [] ≡ mergeOf t tregs s sregs saux
+    unfolding mergeOf keptOut areaOf
+    merge-ok {r} {zeros} e q =
+        let kept = eight-kept (t .«lg_k») zeros after after-small after-long (after-zeros e) in
+        rw (
+          eq-eqb (mergeNo t tregs s sregs saux) 0 (merge-says t tregs s sregs saux .1 (eight-says t tregs .0 (ok .target), (ok .source, ok .coarser))),
+          reads,
+          ← long,
+          ← joins,
+          q,
+          kept .record-is,
+          ← kept .bytes-are,
+        )

@@ -24,7 +24,9 @@ same-length : tie.Need-same-length
 same-length c = search needs
 
 returns : tie.Need-returns
-returns c = cells-8 _ _ (c .before .before .before .before .before .before .before .before .before .pre) (λ i. c .before .before .before .before .before .before .before .before .shared-slice-known .given i .fits) (c .before .before .before .before .before .if1 .taken) (c .before .before .copy .ensures)
+returns c =
+    let start = c .before .before .before .before .before .before .before .before .before in
+    cells-8 _ _ (start .pre) (λ i. c .before .before .before .before .before .before .before .before .shared-slice-known .given i .fits) (c .before .before .before .before .before .if1 .taken) (c .before .before .copy .ensures)
 
 mul-at : tie.Need-mul-at
 mul-at c = search needs
@@ -54,7 +56,9 @@ same-length-2 : tie.Need-same-length-2
 same-length-2 c = search needs
 
 returns-2 : tie.Need-returns-2
-returns-2 c = cells-6 _ _ (c .before .before .before .before .before .before .before .before .before .before .before .pre) (λ i. c .before .before .before .before .before .before .before .before .before .before .shared-slice-known .given i .fits) (c .before .before .before .before .before .if2 .taken) (c .before .before .unpack .ensures)
+returns-2 c =
+    let kind = c .before .before .before .before .before in
+    cells-6 _ _ (kind .before .before .before .before .before .before .pre) (λ i. kind .before .before .before .before .before .shared-slice-known .given i .fits) (kind .if2 .taken) (c .before .before .unpack .ensures)
 
 add-end-4 : tie.Need-add-end-4
 add-end-4 c = search needs
@@ -75,7 +79,10 @@ same-length-3 : tie.Need-same-length-3
 same-length-3 c = search needs
 
 returns-3 : tie.Need-returns-3
-returns-3 c = cells-4 _ _ (c .before .before .before .before .before .before .before .before .before .before .before .pre) (λ i. c .before .before .before .before .before .before .before .before .before .before .shared-slice-known .given i .fits) (is-4 (c .before .before .before .before .before .before .before .before .before .before .before .pre) (c .before .before .before .before .before .before .before .if1 .left) (c .before .before .before .before .before .if2 .left)) (c .before .before .unpack2 .ensures)
+returns-3 c =
+    let kind = c .before .before .before .before .before in
+    let start = kind .before .before .before .before .before .before in
+    cells-4 _ _ (start .pre) (λ i. kind .before .before .before .before .before .shared-slice-known .given i .fits) (is-4 (start .pre) (kind .before .before .if1 .left) (kind .if2 .left)) (c .before .before .unpack2 .ensures)
 
 pub cells-spec : {M : Type 1} → statement M
 cells-spec =

@@ -34,7 +34,9 @@ floors-requires : tie.Need-floors-requires Inv-loop μ-loop
 floors-requires c κs = turn-floor (turn (c .before))
 
 merge-block-requires : tie.Need-merge-block-requires Inv-loop μ-loop
-merge-block-requires c κs = pour-block (c .before .before .before .before .before .before .before .before .before .before .before .before .pre) (turn (c .before .before .before .before .before .before)) _ (c .before .before .before .before .floors .ensures) (c .before .before .before .before .before .before .before .loop .inv .1)
+merge-block-requires c κs =
+    let test = c .before .before .before .before .before .before in
+    pour-block (test .before .before .before .before .before .before .pre) (turn test) _ (c .before .before .before .before .floors .ensures) (test .before .loop .inv .1)
 
 add-from : tie.Need-add-from Inv-loop μ-loop
 add-from c = omega (arith, turn-few (turn (c .before .before .before .before .before .before .before .before .before)), out-long (turn (c .before .before .before .before .before .before .before .before .before)) _ (c .before .before .before .before .before .before .before .floors .ensures))
@@ -44,11 +46,14 @@ loop-less c = omega (arith, turn-some (turn (c .before .before .before .before .
 
 loop-again : tie.Need-loop-again Inv-loop μ-loop
 loop-again c =
-    let loop = c .before .before .before .before .before .before .before .before .before .before .loop in (
-      out-long (turn (c .before .before .before .before .before .before .before .before .before)) _ (c .before .before .before .before .before .before .before .floors .ensures),
+    let test = c .before .before .before .before .before .before .before .before .before in
+    let loop = test .before .loop in
+    let read = c .before .before .before .before .before .before .before .floors .ensures in
+    (
+      out-long (turn test) _ read,
       c .before .before .merge-block .kept .0 ∙ loop .inv .1,
-      out-start (turn (c .before .before .before .before .before .before .before .before .before)) _ (c .before .before .before .before .before .before .before .floors .ensures),
-      pour-next (c .before .before .before .before .before .before .before .before .before .before .before .before .before .before .before .pre) (turn (c .before .before .before .before .before .before .before .before .before)) _ (c .before .before .before .before .before .before .before .floors .ensures) (loop .target) _ _ (loop .inv .1) (c .before .before .merge-block .ensures) (loop .inv .3),
+      out-start (turn test) _ read,
+      pour-next (test .before .before .before .before .before .before .pre) (turn test) _ read (loop .target) _ _ (loop .inv .1) (c .before .before .merge-block .ensures) (loop .inv .3),
     )
 
 same-length : tie.Need-same-length Inv-loop μ-loop
@@ -58,7 +63,11 @@ same-length-2 : tie.Need-same-length-2 Inv-loop μ-loop
 same-length-2 c = search needs
 
 returns : tie.Need-returns Inv-loop μ-loop
-returns c = poured-end _ (c .before .loop .target) _ _ (c .before .loop .from) (omega (arith, c .loop-test .left, c .before .before .num-registers .ensures, floors-long (c .before .before .before .before .before .before .args .s) (c .before .before .before .before .before .before .args .regs .now))) (c .before .loop .inv .3)
+returns c =
+    let loop = c .before .loop in
+    let k = c .before .before .num-registers .ensures in
+    let a = c .before .before .before .before .before .before .args in
+    poured-end _ (loop .target) _ _ (loop .from) (omega (arith, c .loop-test .left, k, floors-long (a .s) (a .regs .now))) (loop .inv .3)
 
 pub pour-by-spec : {M : Type 1} → statement M
 pour-by-spec =

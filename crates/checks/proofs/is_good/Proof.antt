@@ -26,14 +26,27 @@ returns-4 c = no-tally _ _ _ (c .before .before .before .before .before .before 
 
 returns-5 : tie.Need-returns-5
 returns-5 c =
-    plain-good _ _ _ (c .before .before .before .before .before .before .before .before .before .before .counts-fit .ensures) (c .before .before .before .before .before .before .before .before .survey .ensures) (not-false _ (c .before .before .before .before .before .before .before .before .before .if1 .left)) (not-false _ (c .before .before .before .before .before .before .if2 .left)) (not-false _ (c .before .before .before .before .if3 .left)) (not-false _ (c .before .before .if4 .left)) (c .if5 .taken)
+    let tally = c .before .before in
+    let spare = tally .before .before in
+    let values = spare .before .before in
+    let seen = values .before .before in
+    plain-good _ _ _ (seen .before .before .counts-fit .ensures) (seen .survey .ensures) (not-false _ (seen .before .if1 .left)) (not-false _ (values .if2 .left)) (not-false _ (spare .if3 .left)) (not-false _ (tally .if4 .left))
+    (c .if5 .taken)
 
 table-fits-requires : tie.Need-table-fits-requires
-table-fits-requires c κs = can-check _ _ (c .before .before .before .before .before .before .before .before .before .before .counts-fit .ensures) (not-false _ (c .before .before .before .before .before .before .before .before .before .if1 .left)) (c .before .before .before .before .before .before .before .before .survey .ensures) (c .before .before .before .before .before .before .before .before .before .before .before .before .before .pre) (c .if5 .left)
+table-fits-requires c κs =
+    let seen = c .before .before .before .before .before .before .before .before in
+    can-check _ _ (seen .before .before .counts-fit .ensures) (not-false _ (seen .before .if1 .left)) (seen .survey .ensures) (seen .before .before .before .before .before .pre) (c .if5 .left)
 
 returns-6 : tie.Need-returns-6
 returns-6 c =
-    table-good _ _ _ (c .before .before .before .before .before .before .before .before .before .before .before .counts-fit .ensures) (c .before .before .before .before .before .before .before .before .before .survey .ensures) (not-false _ (c .before .before .before .before .before .before .before .before .before .before .if1 .left)) (not-false _ (c .before .before .before .before .before .before .before .if2 .left)) (not-false _ (c .before .before .before .before .before .if3 .left)) (not-false _ (c .before .before .before .if4 .left)) (c .before .if5 .left) (c .table-fits .ensures)
+    let four = c .before in
+    let tally = four .before .before in
+    let spare = tally .before .before in
+    let values = spare .before .before in
+    let seen = values .before .before in
+    table-good _ _ _ (seen .before .before .counts-fit .ensures) (seen .survey .ensures) (not-false _ (seen .before .if1 .left)) (not-false _ (values .if2 .left)) (not-false _ (spare .if3 .left)) (not-false _ (tally .if4 .left))
+    (four .if5 .left) (c .table-fits .ensures)
 
 pub is-good-spec : {M : Type 1} → statement M
 is-good-spec =

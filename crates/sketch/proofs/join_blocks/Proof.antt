@@ -14,7 +14,9 @@ same-length : tie.Need-same-length
 same-length c = search needs
 
 returns : tie.Need-returns
-returns c = joins-all _ _ _ _ (c .before .before .before .before .before .before .before .before .before .before .before .pre) _ (c .before .before .before .before .before .before .pour .ensures) (c .before .before .before .before .before .before .pour .kept .1 .1 .0) (c .before .before .raise-exceptions .ensures)
+returns c =
+    let poured = c .before .before .before .before .before .before .pour in
+    joins-all _ _ _ _ (c .before .before .before .before .before .before .before .before .before .before .before .pre) _ (poured .ensures) (poured .kept .1 .1 .0) (c .before .before .raise-exceptions .ensures)
 
 pub join-blocks-spec : {M : Type 1} → statement M
 join-blocks-spec = tie.close (tie.spec pour-requires raise-exceptions-requires same-length returns)

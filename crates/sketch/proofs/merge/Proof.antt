@@ -4,7 +4,7 @@ use mathlib.Core.Bool.{true}
 use denote.Ref.{now}
 use Rattle.model.specs.Check.{checkNo}
 use Rattle.model.specs.Calls.{eightNo}
-use Rattle.sketch.proofs.Merging.{merge-target, merge-source, merge-finer, joinable, after-cells, merge-ok}
+use Rattle.sketch.proofs.Merging.{merge-target, merge-source, merge-finer, Accepted, joinable, after-cells, merge-ok}
 use borrow.Author.Needs.{needs}
 use Rattle.sketch.proofs.merge.Statement.{statement}
 use Rattle.sketch.proofs.merge.Tie as tie
@@ -45,11 +45,20 @@ same-length-3 c = search needs
 returns-3 : tie.Need-returns-3
 returns-3 c = merge-finer _ _ _ _ _ (target-ok (c .before .before .before .before .before .before)) (source-ok (c .before .before .before)) (c .if3 .taken)
 
+accepted : (c : tie.Else3) → let a = c .before .before .before .before .before .before .before .before .before .before .before .before .before .args in Accepted (a .target) (now (a .tregs)) (a .source) (now (a .sregs)) (now (a .saux))
+accepted c = record {
+  target = target-ok (c .before .before .before .before .before .before);
+  source = source-ok (c .before .before .before);
+  coarser = c .if3 .left;
+  tbytes = λ i. c .before .before .before .before .before .before .before .before .before .before .before .before .slice-known .given i .fits;
+  sbytes = λ i. c .before .before .before .before .before .before .before .before .before .before .before .shared-slice-known .given i .fits;
+}
+
 join-requires : tie.Need-join-requires
-join-requires c κs = joinable _ _ _ _ _ (target-ok (c .before .before .before .before .before .before .before)) (source-ok (c .before .before .before .before)) (c .before .if3 .left) (λ i. c .before .before .before .before .before .before .before .before .before .before .before .before .before .slice-known .given i .fits) (λ i. c .before .before .before .before .before .before .before .before .before .before .before .before .shared-slice-known .given i .fits)
+join-requires c κs = joinable (accepted (c .before))
 
 count-requires : tie.Need-count-requires
-count-requires c κs = after-cells _ _ _ _ _ (target-ok (c .before .before .before .before .before .before .before .before .before .before .before)) (source-ok (c .before .before .before .before .before .before .before .before)) (c .before .before .before .before .before .if3 .left) (λ i. c .before .before .before .before .before .before .before .before .before .before .before .before .before .before .before .before .before .slice-known .given i .fits) (λ i. c .before .before .before .before .before .before .before .before .before .before .before .before .before .before .before .before .shared-slice-known .given i .fits) (c .before .before .before .join .ensures)
+count-requires c κs = after-cells (accepted (c .before .before .before .before .before)) (c .before .before .before .join .ensures)
 
 plain-requires : tie.Need-plain-requires
 plain-requires c κs = search needs
@@ -58,9 +67,7 @@ same-length-4 : tie.Need-same-length-4
 same-length-4 c = search needs
 
 returns-4 : tie.Need-returns-4
-returns-4 c =
-    merge-ok _ _ _ _ _ (target-ok (c .before .before .before .before .before .before .before .before .before .before .before .before .before)) (source-ok (c .before .before .before .before .before .before .before .before .before .before)) (c .before .before .before .before .before .before .before .if3 .left) (λ i. c .before .before .before .before .before .before .before .before .before .before .before .before .before .before .before .before .before .before .before .slice-known .given i .fits) (λ i. c .before .before .before .before .before .before .before .before .before .before .before .before .before .before .before .before .before .before .shared-slice-known .given i .fits)
-    (c .before .before .before .before .before .join .ensures) (c .before .count .ensures) (c .plain .ensures)
+returns-4 c = merge-ok (accepted (c .before .before .before .before .before .before .before)) (c .before .before .before .before .before .join .ensures) (c .before .count .ensures) (c .plain .ensures)
 
 pub merge-spec : {M : Type 1} → statement M
 merge-spec =

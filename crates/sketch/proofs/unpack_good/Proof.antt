@@ -14,7 +14,9 @@ same-length : tie.Need-same-length
 same-length c = search needs
 
 returns : tie.Need-returns
-returns c = whole-all _ _ _ (c .before .before .before .before .before .before .before .before .before .before .before .pre) (c .before .before .before .before .before .before .floors .ensures) (c .before .before .before .before .before .before .floors .kept .1 .1 .1 .0) (c .before .before .raise-exceptions .ensures)
+returns c =
+    let floored = c .before .before .before .before .before .before .floors in
+    whole-all _ _ _ (c .before .before .before .before .before .before .before .before .before .before .before .pre) (floored .ensures) (floored .kept .1 .1 .1 .0) (c .before .before .raise-exceptions .ensures)
 
 pub unpack-good-spec : {M : Type 1} → statement M
 unpack-good-spec = tie.close (tie.spec floors-requires raise-exceptions-requires same-length returns)

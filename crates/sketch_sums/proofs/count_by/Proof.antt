@@ -34,7 +34,9 @@ floors-requires : tie.Need-floors-requires Inv-loop μ-loop
 floors-requires c κs = turn-floor (turn (c .before))
 
 count-all-requires : tie.Need-count-all-requires Inv-loop μ-loop
-count-all-requires c κs = turn-asks (c .before .before .before .before .before .before .before .before .before .before .before .pre) (turn (c .before .before .before .before .before .before)) (c .before .before .before .before .before .before .before .loop .inv .2) (c .before .before .before .before .floors .ensures)
+count-all-requires c κs =
+    let test = c .before .before .before .before .before .before in
+    turn-asks (test .before .before .before .before .before .pre) (turn test) (test .before .loop .inv .2) (c .before .before .before .before .floors .ensures)
 
 add-from : tie.Need-add-from Inv-loop μ-loop
 add-from c = omega (arith, turn-few (turn (c .before .before .before .before .before .before .before)), out-long (turn (c .before .before .before .before .before .before .before)) _ (c .before .before .before .before .before .floors .ensures))
@@ -43,11 +45,14 @@ loop-less : tie.Need-loop-less Inv-loop μ-loop
 loop-less c = omega (arith, turn-some (turn (c .before .before .before .before .before .before .before)), out-long (turn (c .before .before .before .before .before .before .before)) _ (c .before .before .before .before .before .floors .ensures))
 
 loop-again : tie.Need-loop-again Inv-loop μ-loop
-loop-again c = (
-  out-long (turn (c .before .before .before .before .before .before .before)) _ (c .before .before .before .before .before .floors .ensures),
-  out-start (turn (c .before .before .before .before .before .before .before)) _ (c .before .before .before .before .before .floors .ensures),
-  turn-counts (c .before .before .before .before .before .before .before .before .before .before .before .before .pre) (turn (c .before .before .before .before .before .before .before)) (c .before .before .before .before .before .before .before .before .loop .inv .2) (c .before .before .before .before .before .floors .ensures) (c .count-all .ensures),
-)
+loop-again c =
+    let test = c .before .before .before .before .before .before .before in
+    let read = c .before .before .before .before .before .floors .ensures in
+    (
+      out-long (turn test) _ read,
+      out-start (turn test) _ read,
+      turn-counts (test .before .before .before .before .before .pre) (turn test) (test .before .loop .inv .2) read (c .count-all .ensures),
+    )
 
 same-length : tie.Need-same-length Inv-loop μ-loop
 same-length c = search needs

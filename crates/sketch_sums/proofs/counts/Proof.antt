@@ -30,16 +30,31 @@ count-words-requires : tie.Need-count-words-requires
 count-words-requires c κs = words-room _ _ _ (c .before .before .before .before .before .before .before .before .pre) (c .before .before .before .if1 .left) (c .before .before .before .before .before .count-floors .ensures) (front (c .before .before))
 
 returns-2 : tie.Need-returns-2
-returns-2 c = none-moved _ _ _ (c .before .before .before .before .before .before .before .before .before .before .pre) (c .before .before .before .before .before .if1 .left) (c .before .before .before .before .before .before .before .count-floors .ensures) (front (c .before .before .before .before)) (c .before .count-words .ensures) (c .if2 .taken)
+returns-2 c =
+    let table = c .before .before .before .before in
+    none-moved _ _ _ (table .before .before .before .before .before .before .pre) (table .before .if1 .left) (table .before .before .before .count-floors .ensures) (front table) (c .before .count-words .ensures) (c .if2 .taken)
 
 add-count-out : tie.Need-add-count-out
-add-count-out c = omega (arith, top-is _ _ _ (c .before .before .before .before .before .before .before .before .before .before .before .before .pre) (c .before .before .before .before .before .before .before .if1 .left) (c .before .before .before .before .before .before .before .before .before .count-floors .ensures) (front (c .before .before .before .before .before .before)) (c .before .before .before .count-words .ensures) (c .before .before .if2 .left))
+add-count-out c =
+    let table = c .before .before .before .before .before .before in
+    let top = top-is _ _ _ (table .before .before .before .before .before .before .pre) (table .before .if1 .left) (table .before .before .before .count-floors .ensures) (front table) (c .before .before .before .count-words .ensures) (c .before .before .if2 .left) in
+    omega arith
 
 count-out-requires : tie.Need-count-out-requires
-count-out-requires c κs = (top-is _ _ _ (c .before .before .before .before .before .before .before .before .before .before .before .before .pre) (c .before .before .before .before .before .before .before .if1 .left) (c .before .before .before .before .before .before .before .before .before .count-floors .ensures) (front (c .before .before .before .before .before .before)) (c .before .before .before .count-words .ensures) (c .before .before .if2 .left), top-many _ _ _ (c .before .before .before .before .before .before .before .before .before .before .before .before .pre) (c .before .before .before .before .before .before .before .if1 .left) (c .before .before .before .before .before .before .before .before .before .count-floors .ensures) (front (c .before .before .before .before .before .before)) (c .before .before .before .count-words .ensures) (c .before .before .if2 .left))
+count-out-requires c κs =
+    let table = c .before .before .before .before .before .before in
+    let four = table .before .if1 .left in
+    let floored = table .before .before .before .count-floors .ensures in
+    let counted = c .before .before .before .count-words .ensures in
+    (
+      top-is _ _ _ (table .before .before .before .before .before .before .pre) four floored (front table) counted (c .before .before .if2 .left),
+      top-many _ _ _ (table .before .before .before .before .before .before .pre) four floored (front table) counted (c .before .before .if2 .left),
+    )
 
 returns-3 : tie.Need-returns-3
-returns-3 c = words-moved _ _ _ (c .before .before .before .before .before .before .before .before .before .before .before .before .before .pre) (c .before .before .before .before .before .before .before .before .if1 .left) (c .before .before .before .before .before .before .before .before .before .before .count-floors .ensures) (front (c .before .before .before .before .before .before .before)) (c .before .before .before .before .count-words .ensures) (c .before .before .before .if2 .left) (c .count-out .ensures)
+returns-3 c =
+    let table = c .before .before .before .before .before .before .before in
+    words-moved _ _ _ (table .before .before .before .before .before .before .pre) (table .before .if1 .left) (table .before .before .before .count-floors .ensures) (front table) (c .before .before .before .before .count-words .ensures) (c .before .before .before .if2 .left) (c .count-out .ensures)
 
 pub counts-spec : {M : Type 1} → statement M
 counts-spec =
