@@ -48,8 +48,7 @@ loop-again : tie.Need-loop-again Inv-loop μ-loop
 loop-again c =
     let test = c .before .before .before .before .before .before .before .before .before in
     let loop = test .before .loop in
-    let read = c .before .before .before .before .before .before .before .floors .ensures in
-    (
+    let read = c .before .before .before .before .before .before .before .floors .ensures in (
       out-long (turn test) _ read,
       c .before .before .merge-block .kept .0 ∙ loop .inv .1,
       out-start (turn test) _ read,

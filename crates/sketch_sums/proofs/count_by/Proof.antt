@@ -47,8 +47,7 @@ loop-less c = omega (arith, turn-some (turn (c .before .before .before .before .
 loop-again : tie.Need-loop-again Inv-loop μ-loop
 loop-again c =
     let test = c .before .before .before .before .before .before .before in
-    let read = c .before .before .before .before .before .floors .ensures in
-    (
+    let read = c .before .before .before .before .before .floors .ensures in (
       out-long (turn test) _ read,
       out-start (turn test) _ read,
       turn-counts (test .before .before .before .before .before .pre) (turn test) (test .before .loop .inv .2) read (c .count-all .ensures),

@@ -45,8 +45,7 @@ count-out-requires c κs =
     let table = c .before .before .before .before .before .before in
     let four = table .before .if1 .left in
     let floored = table .before .before .before .count-floors .ensures in
-    let counted = c .before .before .before .count-words .ensures in
-    (
+    let counted = c .before .before .before .count-words .ensures in (
       top-is _ _ _ (table .before .before .before .before .before .before .pre) four floored (front table) counted (c .before .before .if2 .left),
       top-many _ _ _ (table .before .before .before .before .before .before .pre) four floored (front table) counted (c .before .before .if2 .left),
     )
