@@ -5,7 +5,7 @@ use mathlib.Core.List.{List, [], _∷_, _++_}
 use Prim.Native.Nat.{ℕ, suc, _+_, _^_, _≤_, _<_}
 use native.Mathlib.Omega.{arith}
 use lib.Dec.{eqb, lit<}
-use lib.ListN.{length, getD, take, drop, length-map}
+use lib.ListN.{replicate, length, getD, take, drop, length-map}
 use lib.Pow.{pow-mono}
 use lib.Seq.{take-all, length-take-le}
 use borrow.Author.Tests.{eq-eqb, ne-eqb}
@@ -21,13 +21,14 @@ use Rattle.model.proofs.Floors.{good-floored, fed-floors}
 use Rattle.model.proofs.FloorCounts.{counts-moved, floor-small}
 use Rattle.sums.specs.Tally as sums
 use Rattle.sums.specs.Tally.{Counted, Room, said, CountedWords, Less}
+use Rattle.sums.proofs.Tallies.{counted-none}
 use Rattle.array4_read.proofs.Held as held
 use Rattle.blocks.proofs.Turns.{turn-long, turn-at, turn-taken}
 use Rattle.blocks.proofs.Levels.{floors-long, good-level, Turn, turn-few, floors-end}
 use Rattle.sketch_sums.specs.Asked.{Small, Countable}
 
 -- ---- floors
-module _ {s : Sketch} {regs : List ℕ} {m k from u : ℕ} (ask : Countable s regs m) (w : Turn s (length regs) m k from u) {cs out : List ℕ} (inv : Counted (take from (floors s regs)) cs) (read : out ≡ take u (drop from (floors s regs))) where
+module _ {s : Sketch} {regs seen : List ℕ} {m k from u : ℕ} (ask : Countable s regs m seen) (w : Turn s (length regs) m k from u) {cs out : List ℕ} (inv : Counted (take from (floors s regs)) cs) (read : out ≡ take u (drop from (floors s regs))) where
   abbrev F : List ℕ
   F = floors s regs
 
@@ -62,8 +63,9 @@ module _ (s : Sketch) (regs aux : List ℕ) (g : Good s regs aux) where
   abbrev R : List ℕ
   R = registers s regs aux
 
-  pub good-small : Small s regs
+  pub good-small : Small s regs (replicate 64 0)
   good-small = record {
+    none = counted-none;
     level = good-level s regs aux g;
     small = λ i l.
         let d : i < 2 ^ s .«lg_k» = rw (floors-long s regs) at l in

@@ -8,29 +8,27 @@ ghost use Rattle.model.specs.Calls.{sumsOf};
 ghost use Rattle.sums.specs.Tally.{Counted, summed};
 ghost use Rattle.sketch_sums.specs.Asked.{Small, Countable};
 
-// By blocks as long as `some`, which is lent for them alone.
-fn count_by(s: Sketch, regs: &[u8], some: &mut [u8]) -> [u32; 64]
-    requires { ⌜ Countable s (now regs) (length (now some)) ⌝ }
-    ensures { λ r. ⌜ Counted (floors s (now (regs .entry))) r ⌝ }
+// By blocks as long as `some`, which is lent for them alone. The counts are lent too: handed on by value they would be copied each time.
+fn count_by(s: Sketch, regs: &[u8], some: &mut [u8], seen: &mut [u32; 64])
+    requires { ⌜ Countable s (now regs) (length (now some)) (now seen) ⌝ }
+    ensures { λ _. ⌜ Counted (floors s (now (regs .entry))) (now (seen .exit)) ⌝ }
 {
     let k = array8::num_registers(s.lg_k);
-    let mut seen = [0u32; 64];
     let mut from = 0;
     while from < k {
         blocks::floors(s, regs, from, some);
-        sums::count_all(&mut seen, some);
+        sums::count_all(seen, some);
         from += some.len();
     }
-    seen
 }
 
-fn count_floors(s: Sketch, regs: &[u8]) -> [u32; 64]
-    requires { ⌜ Small s (now regs) ⌝ }
-    ensures { λ r. ⌜ Counted (floors s (now (regs .entry))) r ⌝ }
+fn count_floors(s: Sketch, regs: &[u8], seen: &mut [u32; 64])
+    requires { ⌜ Small s (now regs) (now seen) ⌝ }
+    ensures { λ _. ⌜ Counted (floors s (now (regs .entry))) (now (seen .exit)) ⌝ }
 {
     let mut some = [0u8; 256];
     let n = blocks::block_len(array8::num_registers(s.lg_k));
-    count_by(s, regs, &mut some[..n])
+    count_by(s, regs, &mut some[..n], seen);
 }
 
 // Each word of the table moves one register from its floor, which is cur_min + 15, to the word's value: no search.
@@ -38,7 +36,8 @@ pub fn counts(s: Sketch, regs: &[u8], aux: &[u32]) -> [u32; 64]
     requires { ⌜ Good s (now regs) (now aux) ⌝ }
     ensures { λ r. ⌜ Counted (registers s (now (regs .entry)) (now (aux .entry))) r ⌝ }
 {
-    let mut seen = count_floors(s, regs);
+    let mut seen = [0u32; 64];
+    count_floors(s, regs, &mut seen);
     if s.kind != 4 {
         return seen;
     }

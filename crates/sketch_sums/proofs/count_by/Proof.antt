@@ -7,7 +7,6 @@ use lib.ListN.{length, take}
 use denote.Ref.{now}
 use Rattle.model.specs.Sketch.{floors}
 use Rattle.sums.specs.Tally.{Counted}
-use Rattle.sums.proofs.Tallies.{counted-none}
 use Rattle.blocks.proofs.Levels.{Turn, turn-few, turn-some, turn-floor, out-long, out-start}
 use Rattle.sketch_sums.proofs.Turns.{turn-asks, turn-counts, turns-end}
 use borrow.Author.Needs.{needs}
@@ -15,16 +14,16 @@ use Rattle.sketch_sums.proofs.count_by.Statement.{statement}
 use Rattle.sketch_sums.proofs.count_by.Tie as tie
 
 abbrev Inv-loop : tie.InvT-loop
-Inv-loop s regs some₀ k seen₀ from₀ some seen from = (length some ≡ length some₀) × (from % length some₀ ≡ 0) × Counted (take from (floors s regs)) seen
+Inv-loop s regs some₀ seen₀ k from₀ some seen from = (length some ≡ length some₀) × (from % length some₀ ≡ 0) × Counted (take from (floors s regs)) seen
 
 abbrev μ-loop : tie.MeasureT-loop
-μ-loop s regs some₀ k seen₀ from₀ some seen from = k - from
+μ-loop s regs some₀ seen₀ k from₀ some seen from = k - from
 
 num-registers-requires : tie.Need-num-registers-requires Inv-loop μ-loop
 num-registers-requires c κs = c .before .before .pre .flat .level .shaped .high
 
 loop-holds : tie.Need-loop-holds Inv-loop μ-loop
-loop-holds c = (refl, zero-mod _, counted-none)
+loop-holds c = (refl, zero-mod _, c .before .before .before .pre .flat .none)
 
 turn : (c : tie.In-loop Inv-loop μ-loop) → let a = c .before .before .before .before .before .args in let l = c .before .loop in
     Turn (a .s) (length (now (a .regs))) (length (now (a .some))) (c .before .before .num-registers .result) (l .from) (length (l .some))

@@ -22,7 +22,7 @@ slice-aggregate-count-by : tie.Need-slice-aggregate-count-by
 slice-aggregate-count-by c = buffer-long (long (c .before))
 
 count-by-requires : tie.Need-count-by-requires
-count-by-requires c κs = rw (← buffer-long (long (c .before))) (record { flat = c .before .before .before .before .pre; long = long (c .before) })
+count-by-requires c κs = rw (← buffer-long (long (c .before .before))) (record { flat = c .before .before .before .before .before .pre; long = long (c .before .before) })
 
 returns : tie.Need-returns
 returns c = search needs
