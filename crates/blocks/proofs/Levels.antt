@@ -21,7 +21,7 @@ use Rattle.model.proofs.Plain.{six-or-eight}
 use Rattle.array4_read.proofs.Held as held
 use Rattle.array8.specs.Asked.{Power, Blocked}
 use Rattle.array8.proofs.Turns.{poured-append}
-use Rattle.blocks.specs.Asked.{Level, Liftable, Floor, Long, Pourable, Worded}
+use Rattle.blocks.specs.Asked.{Level, Liftable, Floor, Long, PourableBy, Worded}
 use Rattle.blocks.proofs.Turns.{past, past-mod, start-mod, next-start, turn-long, turn-at, turn-left}
 
 map-take : (f : ℕ → ℕ) (n : ℕ) (l : List ℕ) → map f (take n l) ≡ take n (map f l)
@@ -157,17 +157,17 @@ module _ {s : Sketch} {n m k from u : ℕ} (w : Turn s n m k from u) where
 long-le : {lg lgk m : ℕ} → Long lg m → lg ≤ lgk → Long lgk m
 long-le l le = record { run = l .run; power = l .power; least = l .least; most = omega (arith, l .most); small = l .small }
 
-pub pour-turn : {s : Sketch} {n m t k from u : ℕ} → Pourable s n m t → k ≡ 2 ^ s .«lg_k» → from % m ≡ 0 → from < k → u ≡ m → Turn s n m k from u
-pour-turn p many start inside len = record { level = p .poured .level; long = long-le (p .long) (p .poured .coarser); many = many; start = start; inside = inside; len = len }
+pub pour-turn : {s : Sketch} {n m t k from u : ℕ} → PourableBy s n m t → k ≡ 2 ^ s .«lg_k» → from % m ≡ 0 → from < k → u ≡ m → Turn s n m k from u
+pour-turn p many start inside len = record { level = p .pourable .level; long = long-le (p .long) (p .pourable .coarser); many = many; start = start; inside = inside; len = len }
 
-module _ {s : Sketch} {n m t k from u : ℕ} (p : Pourable s n m t) (w : Turn s n m k from u) (regs : List ℕ) {out : List ℕ} (read : out ≡ take u (drop from (floors s regs))) where
+module _ {s : Sketch} {n m t k from u : ℕ} (p : PourableBy s n m t) (w : Turn s n m k from u) (regs : List ℕ) {out : List ℕ} (read : out ≡ take u (drop from (floors s regs))) where
   abbrev F : List ℕ
   F = floors s regs
 
   pub pour-block : {v : ℕ} → v ≡ t → Blocked v from (length out)
   pour-block e = record {
-    target = record { lg = p .poured .target .lg; power = e ∙ p .poured .target .power };
-    inside = rw (out-long w regs read, e, p .poured .target .power, p .long .power) (past-mod (p .long .most) from (rw (p .long .power) at (w .start)));
+    target = record { lg = p .pourable .target .lg; power = e ∙ p .pourable .target .power };
+    inside = rw (out-long w regs read, e, p .pourable .target .power, p .long .power) (past-mod (p .long .most) from (rw (p .long .power) at (w .start)));
   }
 
   -- T before this block and S after it; what is left to pour in leads to all

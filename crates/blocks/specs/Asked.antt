@@ -40,16 +40,16 @@ pub record Long (lg m : ℕ) : Type 0 where
   pub small : m ≤ 256
 
 -- n bytes with such a cur_min, and a target of k registers, as many or fewer
-pub record Poured (s : Sketch) (n k : ℕ) : Type 0 where
+pub record Pourable (s : Sketch) (n k : ℕ) : Type 0 where
   pub level : Level s n
   pub target : Power k
   pub least : 4 ≤ target .lg
   pub coarser : target .lg ≤ s .«lg_k»
 
 -- the same, and a length of blocks
-pub record Pourable (s : Sketch) (n m k : ℕ) : Type 0 where
-  pub poured : Poured s n k
-  pub long : Long (poured .target .lg) m
+pub record PourableBy (s : Sketch) (n m k : ℕ) : Type 0 where
+  pub pourable : Pourable s n k
+  pub long : Long (pourable .target .lg) m
 
 -- a record whose table is within n words, and a target of k registers
 pub record Worded (s : Sketch) (n k : ℕ) : Type 0 where
@@ -63,6 +63,6 @@ pub record Block (s : Sketch) (regs aux : List ℕ) (from m : ℕ) : Type 0 wher
   pub within : Within s (length regs) from m
 
 -- the same of kind 4
-pub record Raw (s : Sketch) (regs aux : List ℕ) (from m : ℕ) : Type 0 where
+pub record Block4 (s : Sketch) (regs aux : List ℕ) (from m : ℕ) : Type 0 where
   pub block : Block s regs aux from m
   pub four : s .kind ≡ 4

@@ -11,7 +11,7 @@ ghost use Rattle.model.specs.Registers.{fed, joined};
 ghost use Rattle.model.specs.Sketch as book;
 ghost use Rattle.model.specs.Sketch.{tableIn};
 ghost use Rattle.array8.specs.Asked.{Power};
-ghost use Rattle.blocks.specs.Asked.{Within, Liftable, Floor, Pourable, Poured, Worded, Block, Raw, Long};
+ghost use Rattle.blocks.specs.Asked.{Within, Liftable, Floor, PourableBy, Pourable, Worded, Block, Block4, Long};
 
 // What stands at the slots, and kind 4's tokens as they are: it needs neither the exception table nor good order.
 pub fn cells(s: Sketch, regs: &[u8], from: usize, out: &mut [u8])
@@ -68,7 +68,7 @@ pub fn block_len(k: usize) -> usize
 
 // By blocks as long as `some`, which is lent for them alone.
 fn pour_by(s: Sketch, regs: &[u8], some: &mut [u8], target: &mut [u8])
-    requires { ⌜ Pourable s (length (now regs)) (length (now some)) (length (now target)) ⌝ }
+    requires { ⌜ PourableBy s (length (now regs)) (length (now some)) (length (now target)) ⌝ }
     ensures { λ _. ⌜ now (target .exit) ≡ joined (length (now (target .entry))) (now (target .entry)) (book.floors s (now (regs .entry))) ⌝ }
 {
     let k = array8::num_registers(s.lg_k);
@@ -82,7 +82,7 @@ fn pour_by(s: Sketch, regs: &[u8], some: &mut [u8], target: &mut [u8])
 
 // All floors into kind 8's registers, as many or fewer.
 pub fn pour(s: Sketch, regs: &[u8], target: &mut [u8])
-    requires { ⌜ Poured s (length (now regs)) (length (now target)) ⌝ }
+    requires { ⌜ Pourable s (length (now regs)) (length (now target)) ⌝ }
     ensures { λ _. ⌜ now (target .exit) ≡ joined (length (now (target .entry))) (now (target .entry)) (book.floors s (now (regs .entry))) ⌝ }
 {
     let mut some = [0u8; 256];
@@ -104,7 +104,7 @@ pub fn raise_exceptions(s: Sketch, aux: &[u32], target: &mut [u8])
 
 // Kind 4's nibbles made registers one after the other: a token by a search.
 fn resolve(s: Sketch, regs: &[u8], aux: &[u32], from: usize, out: &mut [u8])
-    requires { ⌜ Raw s (now regs) (now aux) from (length (now out)) ⌝ }
+    requires { ⌜ Block4 s (now regs) (now aux) from (length (now out)) ⌝ }
     ensures { λ _. ⌜ now (out .exit) ≡ take (length (now (out .entry))) (drop from (book.registers s (now (regs .entry)) (now (aux .entry)))) ⌝ }
 {
     let mut i = 0;

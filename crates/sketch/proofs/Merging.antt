@@ -23,7 +23,7 @@ use Rattle.model.proofs.Kept.{check-ok, eight-says, merge-says}
 use Rattle.model.proofs.Floors.{floors-words, fed-floors, good-floored}
 use Rattle.array8.specs.Asked.{Power, Finer}
 use Rattle.survey_whole.specs.Whole.{Cells}
-use Rattle.blocks.specs.Asked.{Floor, Poured, Worded}
+use Rattle.blocks.specs.Asked.{Floor, Pourable, Worded}
 use Rattle.blocks.proofs.Levels.{good-level, whole-floor, whole-floors, good-worded}
 use Rattle.checks.proofs.Rungs.{rung-no, rung-ok}
 use Rattle.checks.proofs.ByKind.{eight-long}
@@ -35,7 +35,7 @@ module _ (s : Sketch) (regs aux : List ℕ) (n : ℕ) (j : Joinable s regs aux n
   target : Power n
   target = record { lg = j .lg; power = j .power }
 
-  pub joins-floors : Poured s (length regs) n
+  pub joins-floors : Pourable s (length regs) n
   unfolding target
   joins-floors = record { level = good-level s regs aux (j .good); target = target; least = j .least; coarser = j .coarser }
 

@@ -212,7 +212,7 @@ fn join_blocks(s: Sketch, regs: &[u8], aux: &[u32], target: &mut [u8])
     blocks::raise_exceptions(s, aux, target);
 }
 
-// Kind 8 has its registers at hand, and takes half the time without blocks. With as many registers no slot is reduced.
+// Kind 8 has its registers at hand, and merges as the Rust does. With as many registers no slot is reduced.
 fn join(s: Sketch, regs: &[u8], aux: &[u32], target: &mut [u8])
     requires { ⌜ Joinable s (now regs) (now aux) (length (now target)) ⌝ }
     ensures { λ _. ⌜ now (target .exit) ≡ joined (length (now (target .entry))) (now (target .entry)) (registers s (now (regs .entry)) (now (aux .entry))) ⌝ }

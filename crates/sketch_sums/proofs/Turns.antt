@@ -1,8 +1,8 @@
 -- Floors counted block by block, and then the words of the table: what each step asks and leaves. Assumes nothing.
 use mathlib.Core.Path.{_≡_, refl, sym, ap, _∙_, subst}
 use mathlib.Core.Bool.{Bool, true, false}
-use mathlib.Core.List.{List, [], _∷_, _++_}
-use Prim.Native.Nat.{ℕ, suc, _+_, _^_, _≤_, _<_}
+use mathlib.Core.List.{List, _++_}
+use Prim.Native.Nat.{ℕ, _+_, _^_, _≤_, _<_}
 use native.Mathlib.Omega.{arith}
 use lib.Dec.{eqb, lit<}
 use lib.ListN.{replicate, length, getD, take, drop, length-map}
@@ -11,10 +11,11 @@ use lib.Seq.{take-all, length-take-le}
 use borrow.Author.Tests.{eq-eqb, ne-eqb}
 use Rattle.model.specs.Pick.{pick}
 use Rattle.model.specs.Coupon.{value}
-use Rattle.model.specs.Registers.{fed, countOf}
+use Rattle.model.specs.Registers.{fed}
 use Rattle.model.specs.Table.{keeps}
 use Rattle.model.specs.Sketch.{floors, tableIn, registers, Good}
 use Rattle.model.specs.declared.Sketch.{Sketch}
+use Rattle.model.proofs.Lowest.{count-append}
 use Rattle.model.proofs.Keeps.{keeps-few}
 use Rattle.model.proofs.Kept.{registers-long}
 use Rattle.model.proofs.Floors.{good-floored, fed-floors}
@@ -50,15 +51,6 @@ pub turns-end : (s : Sketch) (regs : List ℕ) {k : ℕ} → k ≡ 2 ^ s .«lg_k
 turns-end s regs many from {cs} inv past = subst (λ (l : List ℕ). Counted l cs) (take-all from (floors s regs) (omega (arith, many, floors-long s regs))) inv
 
 -- ---- words
-count-append : (v : ℕ) (xs ys : List ℕ) → countOf v (xs ++ ys) ≡ countOf v xs + countOf v ys
-unfolding countOf
-count-append v [] ys = omega arith
-count-append v (x ∷ xs) ys = go (eqb x v) (count-append v xs ys)
-  where
-    go : (b : Bool) → countOf v (xs ++ ys) ≡ countOf v xs + countOf v ys → pick b (suc (countOf v (xs ++ ys))) (countOf v (xs ++ ys)) ≡ pick b (suc (countOf v xs)) (countOf v xs) + countOf v ys
-    go true e = omega arith
-    go false e = e
-
 module _ (s : Sketch) (regs aux : List ℕ) (g : Good s regs aux) where
   abbrev R : List ℕ
   R = registers s regs aux

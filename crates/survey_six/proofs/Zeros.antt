@@ -1,21 +1,18 @@
 -- Zeros counted byte after byte. Assumes nothing.
 use mathlib.Core.Path.{_≡_, refl, sym, _∙_, ap, subst}
-use mathlib.Core.Bool.{Bool, true, false}
 use mathlib.Core.List.{List}
 use Prim.Native.Nat.{ℕ, zero, suc, _+_, _-_, _*_, _/_, _%_, _^_, _≤_, _<_}
-use native.Mathlib.Numerals.{add-one}
 use native.Mathlib.Omega.{arith}
 use native.Mathlib.Decide.{ℕ-discrete}
 use lib.Bits.{bitAnd, and-mask}
 use lib.Dec.{eqb}
 use lib.ListN.{length, getD, drop, drop-of-length-le}
-use lib.Seq.{drop-cons}
 use borrow.Author.Tests.{eq-eqb, ne-eqb}
 use Rattle.model.specs.Pick.{pick}
 use Rattle.model.specs.Registers.{countOf}
 use Rattle.model.specs.Packed.{Bytes, unpacked}
 use Rattle.model.proofs.Packing.{length-unpacked, getD-unpacked, slot-window, window-two}
-use Rattle.model.proofs.Lowest.{count-le}
+use Rattle.model.proofs.Lowest.{count-le, count-next}
 use Rattle.survey_six.specs.Six.{Flag, Both, Groups, left, beginsAt}
 
 abbrev pub cells : List ℕ → List ℕ
@@ -25,14 +22,6 @@ abbrev mark : ℕ → ℕ
 mark n = pick (eqb n 0) 1 0
 
 -- ---- one cell
-count-one : (R : List ℕ) (i : ℕ) → i < length R → countOf 0 (drop i R) ≡ mark (getD R i 0) + countOf 0 (drop (i + 1) R)
-unfolding countOf
-count-one R i h = rw (add-one i, drop-cons R i 0 h) (go (eqb (getD R i 0) 0))
-  where
-    go : (b : Bool) → pick b (suc (countOf 0 (drop (suc i) R))) (countOf 0 (drop (suc i) R)) ≡ pick b 1 0 + countOf 0 (drop (suc i) R)
-    go true = omega arith
-    go false = omega arith
-
 flag-mark : {P : Type 0} {r : ℕ} (cell : ℕ) → Flag P r → (P → cell ≡ 0) → (cell ≡ 0 → P) → r ≡ mark cell
 flag-mark {P} {r} cell f to from = go (ℕ-discrete cell 0)
   where
@@ -68,7 +57,7 @@ module _ (regs : List ℕ) (g : Groups regs) (bytes : Bytes regs) (j : ℕ) (l :
   cell-at s r e h = getD-unpacked 6 ((length regs - 1) / 3 * 4) regs s (omega (arith, g .threes)) ∙ slot-window 6 s 2 j r regs bytes e (omega arith) ∙ ap (λ (w : ℕ). w / 2 ^ r % 2 ^ 6) (sym (window-two regs j))
 
   counted : (s : ℕ) → 6 * s < 8 * j + 8 → countOf 0 (drop s (cells regs)) ≡ mark (getD (cells regs) s 0) + countOf 0 (drop (s + 1) (cells regs))
-  counted s h = let q : s < length (cells regs) = omega (arith, g .threes, length-unpacked 6 ((length regs - 1) / 3 * 4) regs) in count-one (cells regs) s q
+  counted s h = let q : s < length (cells regs) = omega (arith, g .threes, length-unpacked 6 ((length regs - 1) / 3 * 4) regs) in count-next 0 (cells regs) s q
 
   abbrev b : ℕ
   b = getD regs j 0

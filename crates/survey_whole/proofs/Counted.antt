@@ -1,20 +1,18 @@
 -- Cells counted byte after byte, and the largest, over the width. Assumes nothing.
 use mathlib.Core.Path.{_≡_, sym, _∙_, subst}
-use mathlib.Core.Bool.{Bool, true, false}
 use mathlib.Core.Logic.{⊎-elim}
 use mathlib.Core.List.{List}
-use Prim.Native.Nat.{ℕ, suc, max, _+_, _-_, _*_, _/_, _%_, _^_, _≤_, _<_}
+use Prim.Native.Nat.{ℕ, max, _+_, _-_, _*_, _/_, _%_, _^_, _≤_, _<_}
 use native.Mathlib.Nat.{mul-zero}
 use native.Mathlib.Numerals.{add-one}
 use native.Mathlib.Omega.{arith}
 use lib.Dec.{eqb}
 use lib.ListN.{length, getD, drop, drop-of-length-le}
-use lib.Seq.{drop-cons}
 use Rattle.model.specs.Pick.{pick}
 use Rattle.model.specs.Registers.{countOf}
 use Rattle.model.specs.Packed.{Bytes, unpacked}
 use Rattle.model.proofs.Packing.{length-unpacked, getD-unpacked}
-use Rattle.model.proofs.Lowest.{count-le}
+use Rattle.model.proofs.Lowest.{count-le, count-next}
 use Rattle.packed.proofs.Cells.{get-one}
 use Rattle.survey_whole.specs.Whole.{Width, Hits, plain, highest, most, left}
 
@@ -56,14 +54,7 @@ mark n v = pick (eqb n v) 1 0
 
 module _ (w : ℕ) (regs : List ℕ) (s n : ℕ) (is : n ≡ getD (cells w regs) s 0) where
   left-cell : (v : ℕ) → s < 8 / w * length regs → countOf v (drop s (cells w regs)) ≡ mark n v + countOf v (drop (s + 1) (cells w regs))
-  unfolding countOf
-  left-cell v l =
-      let h : s < length (cells w regs) = omega (arith, length-unpacked w (8 / w * length regs) regs) in
-      rw (add-one s, drop-cons (cells w regs) s 0 h, is) (go (eqb (getD (cells w regs) s 0) v) (countOf v (drop (suc s) (cells w regs))))
-    where
-      go : (b : Bool) (m : ℕ) → pick b (suc m) m ≡ pick b 1 0 + m
-      go true m = omega arith
-      go false m = omega arith
+  left-cell v l = rw is (count-next v (cells w regs) s (omega (arith, length-unpacked w (8 / w * length regs) regs)))
 
   top-cell : top w regs (s + 1) ≡ max (top w regs s) (plain w n)
   unfolding most

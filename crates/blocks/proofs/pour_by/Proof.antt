@@ -21,7 +21,7 @@ abbrev μ-loop : tie.MeasureT-loop
 μ-loop s regs some₀ target₀ k from₀ some target from = k - from
 
 num-registers-requires : tie.Need-num-registers-requires Inv-loop μ-loop
-num-registers-requires c κs = c .before .before .before .pre .poured .level .shaped .high
+num-registers-requires c κs = c .before .before .before .pre .pourable .level .shaped .high
 
 loop-holds : tie.Need-loop-holds Inv-loop μ-loop
 loop-holds c = (refl, refl, zero-mod _, refl)

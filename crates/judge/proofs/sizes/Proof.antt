@@ -35,10 +35,10 @@ few c =
       rw (c .word-count .ensures) (words-few _ (form (c .before .before)) (subst (λ (r : Sketch). r .«aux_count» < 2 ^ 32) (st .pre .headed .is) (search needs))),
     )
 
-end : (c : tie.After-word-count) → 40 + c .before .bytes-of .result + 4 * c .word-count .result ≡ 40 + bytesOf (c .before .before .before .before .before .before .before .args .s .kind) (c .before .before .before .before .before .before .before .args .s .«lg_k») + 4 * wordCount (now (c .before .before .before .before .before .before .before .args .image))
+end : (c : tie.After-word-count) → let a = c .before .before .before .before .before .before .before .args in 40 + c .before .bytes-of .result + 4 * c .word-count .result ≡ 40 + bytesOf (a .s .kind) (a .s .«lg_k») + 4 * wordCount (now (a .image))
 end c = ap₂ (λ (m n : ℕ). 40 + m + 4 * n) (c .before .bytes-of .ensures) (c .word-count .ensures)
 
-size : (c : tie.After-table-size) → c .table-size .result ≡ tableSize (baseFor (c .before .before .before .before .before .before .before .before .before .before .before .args .s .«lg_k»)) (c .before .before .before .before .before .before .before .before .before .before .before .args .s .«aux_count»)
+size : (c : tie.After-table-size) → let s = c .before .before .before .before .before .before .before .before .before .before .before .args .s in c .table-size .result ≡ tableSize (baseFor (s .«lg_k»)) (s .«aux_count»)
 size c = c .table-size .ensures ∙ ap (λ (n : ℕ). tableSize n (c .before .before .before .before .before .before .before .before .before .before .before .args .s .«aux_count»)) (c .before .before .base-for .ensures)
 
 counts-fit-requires : tie.Need-counts-fit-requires
@@ -93,14 +93,22 @@ unfolding sizesNo
 returns-4 c =
     let p = c .before .before .before .before in
     let w = p .before in
-    pass _ 10 _ (counts (w .before .before .before .before)) (pass _ 11 _ (form (w .before .before)) (pass _ 7 _ (le-leb _ _ (subst (λ (n : ℕ). n ≤ length (now (w .before .before .before .before .before .before .before .args .image))) (end w) (p .if3 .left))) (stop _ 6 _ refl (lt-leb _ _ (subst (λ (n : ℕ). w .before .before .before .before .before .before .before .args .aux-len < n) (size (c .before)) (c .if4 .taken))))))
+    let a = w .before .before .before .before .before .before .before .args in
+    pass _ 10 _ (counts (w .before .before .before .before))
+    (pass _ 11 _ (form (w .before .before))
+    (pass _ 7 _ (le-leb _ _ (subst (λ (n : ℕ). n ≤ length (now (a .image))) (end w) (p .if3 .left)))
+    (stop _ 6 _ refl (lt-leb _ _ (subst (λ (n : ℕ). a .aux-len < n) (size (c .before)) (c .if4 .taken))))))
 
 returns-5 : tie.Need-returns-5
 unfolding sizesNo
 returns-5 c =
     let p = c .before .before .before .before in
     let w = p .before in
-    pass _ 10 _ (counts (w .before .before .before .before)) (pass _ 11 _ (form (w .before .before)) (pass _ 7 _ (le-leb _ _ (subst (λ (n : ℕ). n ≤ length (now (w .before .before .before .before .before .before .before .args .image))) (end w) (p .if3 .left))) (pass _ 6 _ (le-leb _ _ (subst (λ (n : ℕ). n ≤ w .before .before .before .before .before .before .before .args .aux-len) (size (c .before)) (c .if4 .left))) done)))
+    let a = w .before .before .before .before .before .before .before .args in
+    pass _ 10 _ (counts (w .before .before .before .before))
+    (pass _ 11 _ (form (w .before .before))
+    (pass _ 7 _ (le-leb _ _ (subst (λ (n : ℕ). n ≤ length (now (a .image))) (end w) (p .if3 .left)))
+    (pass _ 6 _ (le-leb _ _ (subst (λ (n : ℕ). n ≤ a .aux-len) (size (c .before)) (c .if4 .left))) done)))
 
 pub sizes-spec : {M : Type 1} → statement M
 sizes-spec =

@@ -21,7 +21,9 @@ same-length : tie.Need-same-length
 same-length c = search needs
 
 returns : tie.Need-returns
-returns c = fed-8 (c .before .before .before .before .before .before .before .before .before .pre) (c .before .before .before .before .before .if1 .taken) (λ i. c .before .before .before .before .before .before .before .before .slice-known .given i .fits) (c .before .before .before .feed .ensures) (c .plain .ensures)
+returns c =
+    let start = c .before .before .before .before .before .before .before .before .before in
+    fed-8 (start .pre) (c .before .before .before .before .before .if1 .taken) (λ i. c .before .before .before .before .before .before .before .before .slice-known .given i .fits) (c .before .before .before .feed .ensures) (c .plain .ensures)
 
 feed-requires-2 : tie.Need-feed-requires-2
 feed-requires-2 c κs =
@@ -37,7 +39,9 @@ same-length-2 : tie.Need-same-length-2
 same-length-2 c = search needs
 
 returns-2 : tie.Need-returns-2
-returns-2 c = fed-6 (c .before .before .before .before .before .before .before .before .before .pre) (is-6 (c .before .before .before .before .before .before .before .before .before .pre) (c .before .before .before .before .before .if1 .left)) (c .before .before .before .feed2 .ensures) (c .plain2 .ensures)
+returns-2 c =
+    let pre = c .before .before .before .before .before .before .before .before .before .pre in
+    fed-6 pre (is-6 pre (c .before .before .before .before .before .if1 .left)) (c .before .before .before .feed2 .ensures) (c .plain2 .ensures)
 
 pub feed-plain-spec : {M : Type 1} → statement M
 feed-plain-spec =

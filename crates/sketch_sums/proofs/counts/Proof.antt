@@ -52,7 +52,8 @@ count-out-requires c κs =
 returns-3 : tie.Need-returns-3
 returns-3 c =
     let table = c .before .before .before .before .before .before .before in
-    words-moved _ _ _ (table .before .before .before .before .before .before .before .pre) (table .before .if1 .left) (table .before .before .before .count-floors .ensures) (front table) (c .before .before .before .before .count-words .ensures) (c .before .before .before .if2 .left) (c .count-out .ensures)
+    let counted = c .before .before .before .before .count-words .ensures in
+    words-moved _ _ _ (table .before .before .before .before .before .before .before .pre) (table .before .if1 .left) (table .before .before .before .count-floors .ensures) (front table) counted (c .before .before .before .if2 .left) (c .count-out .ensures)
 
 pub counts-spec : {M : Type 1} → statement M
 counts-spec =
