@@ -1,9 +1,10 @@
-/* The public calls for C. Link target/staticlib/libc_api.a, which `rt staticlib c_api` writes.
+/* The public calls for C. Link dist/liblintelpear.a, which `./build` leaves; `rt staticlib c_api` writes the same as target/staticlib/libc_api.a.
  *
  * A record is five words: kind (4, 6 or 8), lg_k (4 to 21), cur_min, num_at_cur_min, aux_count. Slices are a pointer and a length in
  * elements. Every call answers for every content of its record and slices: it refuses what is not in good order, by the numbers below,
- * and leaves what it was lent, scratch excepted. It asks only that pointers hold as many elements as their lengths say (no null, not even
- * for a length of zero), and that what a call writes does not lie within anything else that it is lent.
+ * and leaves what it was lent as it was, save scratch and what it answers with, which becomes zeros: the record of lp_start and lp_open,
+ * *taken, sums, *len. Only lp_feed at LP_NO_ROOM keeps what it took. A call asks only that pointers hold as many elements as their
+ * lengths say (no null, not even for a length of zero), and that what it writes does not lie within anything else that it is lent.
  *
  * Register bytes: k/2, 3k/4+1 or k for kinds 4, 6, 8, where k = 2^lg_k. Only kind 4 uses the exception area, of any number of words (2k
  * are always enough), and scratch, at least as many. A coupon has its value in the upper 6 bits and its slot in the lower 26. */

@@ -1,7 +1,7 @@
 //! Our calls, over the C interface, in memory that is lent once and used again. A refusal ends the run: nothing here should be refused.
 
 use crate::side::Side;
-use lintelpear::Record;
+use lintelpear::lent::{self, Record};
 
 #[derive(Clone)]
 pub struct Ours {
@@ -21,7 +21,7 @@ impl Ours {
             _ => k,
         };
         let (mut regs, mut aux, scratch) = (vec![0; bytes], vec![0; words], vec![0; words]);
-        let record = lintelpear::start(kind.into(), lg_k.into(), &mut regs, &mut aux).unwrap();
+        let record = lent::start(kind.into(), lg_k.into(), &mut regs, &mut aux).unwrap();
         Ours { record, regs, aux, scratch }
     }
 
@@ -65,6 +65,6 @@ impl Side for Ours {
 
     fn open(&mut self, image: &[u8]) {
         let Ours { record, regs, aux, scratch } = self;
-        *record = lintelpear::open(image, regs, aux, scratch).unwrap();
+        *record = lent::open(image, regs, aux, scratch).unwrap();
     }
 }

@@ -1,177 +1,40 @@
-//! HyperLogLog registers in memory that the caller lends: the public calls, safe to call. Each call answers for every content of what it
-//! is lent, so a reference is all that it asks; what is not in good order it refuses, and leaves as it was, scratch excepted.
+//! HyperLogLog registers. A [`Sketch`] owns its memory; [`lent`] has the calls below it, over memory that the caller lends.
 //!
-//! Register bytes: k/2, 3k/4+1 or k for kinds 4, 6, 8, where k = 2^lg_k. Only kind 4 uses the exception area, of any number of words (2k are
-//! always enough), and scratch, at least as many. A coupon has its value in the upper 6 bits and its slot in the lower 26.
+//! A sketch keeps k = 2^lg_k registers of 0 to 63 in one of three [`Kind`]s, and is fed [`Coupon`]s, a slot and a value each. Its images
+//! have the layout of Apache DataSketches. Hashing items into coupons and estimating how many there were is no part of this crate.
+//!
+//! ```
+//! # fn main() -> Result<(), lintelpear::Refusal> {
+//! use lintelpear::{Coupon, Kind, Sketch};
+//!
+//! let mut north = Sketch::new(12, Kind::Four)?;
+//! north.extend((0..4000).map(|slot| Coupon::new(slot, 3)));
+//! let mut south = Sketch::new(12, Kind::Six)?;
+//! south.update(Coupon::new(7, 40));
+//! let image = south.to_bytes();
+//!
+//! let mut both = Sketch::new(12, Kind::Eight)?;
+//! both.merge(&north)?;
+//! both.merge(&Sketch::from_bytes(&image)?)?;
+//! assert_eq!(both.registers()[6..9], [3, 40, 3]);
+//! # Ok(())
+//! # }
+//! ```
+//!
+//! The calls in `lent` are proved code behind a C interface, linked from an archive for x86-64 Linux: `liblintelpear.a` or `libc_api.a` in
+//! the folder that LINTELPEAR_LIB names, else what `rt staticlib c_api` wrote at the repository's top. What this crate adds, the
+//! declarations of that interface among it, is tested, not proved.
 
+mod area;
+mod coupon;
+mod image;
+mod kind;
+pub mod lent;
 mod raw;
+mod refusal;
+mod sketch;
 
-/// Why a call refused, by the numbers of the table of refusals.
-#[derive(Clone, Copy, Debug, PartialEq, Eq)]
-#[repr(u32)]
-pub enum Refusal {
-    Kind = 1,
-    LgK,
-    Size,
-    Damaged,
-    Finer,
-    NoRoom,
-    Short,
-    Header,
-    Mode,
-    Counts,
-    LgArr,
-    Value,
-    Aux,
-    Spare,
-    Tally,
-    Out,
-}
-
-use Refusal::*;
-
-fn answer(number: u32) -> Result<(), Refusal> {
-    const ALL: [Refusal; 16] = [
-        Kind, LgK, Size, Damaged, Finer, NoRoom, Short, Header, Mode, Counts, LgArr, Value, Aux,
-        Spare, Tally, Out,
-    ];
-    match number {
-        0 => Ok(()),
-        // The calls are proved to answer no other number.
-        _ => Err(ALL[number as usize - 1]),
-    }
-}
-
-/// What feed gives back: how many coupons were taken, and why not all of them.
-#[derive(Clone, Copy, Debug, PartialEq, Eq)]
-pub struct Fed {
-    pub taken: usize,
-    pub answer: Result<(), Refusal>,
-}
-
-/// A sketch's record: kind, lg_k, cur_min, num_at_cur_min, aux_count. Any words may stand here.
-#[derive(Clone, Copy, Debug, Default, PartialEq, Eq)]
-pub struct Record(pub [u32; 5]);
-
-/// An empty sketch: register bytes and, for kind 4, the exception area become zeros.
-pub fn start(kind: u32, lg_k: u32, regs: &mut [u8], aux: &mut [u32]) -> Result<Record, Refusal> {
-    let mut record = Record::default();
-    let (n, m) = (regs.len(), aux.len());
-    let number = unsafe {
-        raw::lp_start(kind, lg_k, &mut record.0, regs.as_mut_ptr(), n, aux.as_mut_ptr(), m)
-    };
-    answer(number).map(|()| record)
-}
-
-/// The sketch of an image, whose kind and lg_k, bytes 7 and 3, say how many register bytes there have to be.
-pub fn open(
-    image: &[u8],
-    regs: &mut [u8],
-    aux: &mut [u32],
-    scratch: &mut [u32],
-) -> Result<Record, Refusal> {
-    let mut record = Record::default();
-    let number = unsafe {
-        raw::lp_open(
-            image.as_ptr(),
-            image.len(),
-            &mut record.0,
-            regs.as_mut_ptr(),
-            regs.len(),
-            aux.as_mut_ptr(),
-            aux.len(),
-            scratch.as_mut_ptr(),
-            scratch.len(),
-        )
-    };
-    answer(number).map(|()| record)
-}
-
-impl Record {
-    /// Takes coupons in order. At NO_ROOM record and memory hold those taken; any other refusal takes none.
-    pub fn feed(
-        &mut self,
-        regs: &mut [u8],
-        aux: &mut [u32],
-        scratch: &mut [u32],
-        coupons: &[u32],
-    ) -> Fed {
-        let mut taken = 0;
-        let number = unsafe {
-            raw::lp_feed(
-                &mut self.0,
-                regs.as_mut_ptr(),
-                regs.len(),
-                aux.as_mut_ptr(),
-                aux.len(),
-                scratch.as_mut_ptr(),
-                scratch.len(),
-                coupons.as_ptr(),
-                coupons.len(),
-                &mut taken,
-            )
-        };
-        Fed { taken, answer: answer(number) }
-    }
-
-    /// The k registers, a byte each.
-    pub fn unpack(&self, regs: &[u8], aux: &[u32], out: &mut [u8]) -> Result<(), Refusal> {
-        let (n, m, o) = (regs.len(), aux.len(), out.len());
-        answer(unsafe {
-            raw::lp_unpack(&self.0, regs.as_ptr(), n, aux.as_ptr(), m, out.as_mut_ptr(), o)
-        })
-    }
-
-    /// The registers of a kind 8 sketch, uncopied; none where a check refuses.
-    pub fn view<'a>(&self, regs: &'a [u8]) -> &'a [u8] {
-        &regs[..unsafe { raw::lp_view(&self.0, regs.as_ptr(), regs.len()) }]
-    }
-
-    /// Merges a sketch into this one of kind 8, whose lg_k is no larger.
-    pub fn merge(
-        &mut self,
-        regs: &mut [u8],
-        source: &Record,
-        source_regs: &[u8],
-        source_aux: &[u32],
-    ) -> Result<(), Refusal> {
-        answer(unsafe {
-            raw::lp_merge(
-                &mut self.0,
-                regs.as_mut_ptr(),
-                regs.len(),
-                &source.0,
-                source_regs.as_ptr(),
-                source_regs.len(),
-                source_aux.as_ptr(),
-                source_aux.len(),
-            )
-        })
-    }
-
-    /// kxq0 and kxq1, exact.
-    pub fn sums(&self, regs: &[u8], aux: &[u32]) -> Result<[f64; 2], Refusal> {
-        let mut sums = [0.0; 2];
-        let (n, m) = (regs.len(), aux.len());
-        let number = unsafe { raw::lp_sums(&self.0, regs.as_ptr(), n, aux.as_ptr(), m, &mut sums) };
-        answer(number).map(|()| sums)
-    }
-
-    /// Writes the image over the front of `out`; answers its length.
-    pub fn write(&self, regs: &[u8], aux: &[u32], out: &mut [u8]) -> Result<usize, Refusal> {
-        let mut len = 0;
-        let number = unsafe {
-            raw::lp_write(
-                &self.0,
-                regs.as_ptr(),
-                regs.len(),
-                aux.as_ptr(),
-                aux.len(),
-                out.as_mut_ptr(),
-                out.len(),
-                &mut len,
-            )
-        };
-        answer(number).map(|()| len)
-    }
-}
+pub use coupon::Coupon;
+pub use kind::Kind;
+pub use refusal::Refusal;
+pub use sketch::Sketch;

@@ -2,7 +2,7 @@
 use Prim.Native.Nat.{ℕ}
 use mathlib.Core.List.{List, [], _∷_}
 use lib.Ieee.{Float}
-use Rattle.model.specs.Calls.{Out, Unpacked, Summed}
+use Rattle.model.specs.Calls.{Out, Summed}
 use Rattle.model.specs.declared.Sketch.{Sketch}
 use Rattle.c_api.specs.Words.{recordIn, recordOut}
 
@@ -22,10 +22,6 @@ lent n w k r a = record { no = n; words = w; sketch = recordIn w; count = k; reg
 -- what a call gives: its record, and that put over the words that were handed in
 abbrev pub handed : List ℕ → Out → Lent
 handed w q = record { no = q .no; words = recordOut w (q .sketch); sketch = q .sketch; count = q .count; regs = q .regs; aux = q .aux }
-
--- what unpack gives back, by its parts
-abbrev pub unpacked : ℕ → List ℕ → Unpacked
-unpacked n l = record { no = n; out = l }
 
 -- what sums gives back: the number, and kxq0 and kxq1 as two doubles
 pub record Two : Type 0 where

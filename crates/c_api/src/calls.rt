@@ -6,9 +6,9 @@ use crate::record::put;
 ghost use mathlib.Core.Path.{_≡_};
 ghost use mathlib.Core.List.{[]};
 ghost use lib.ListN.{length};
-ghost use Rattle.model.specs.Calls.{startOf, feedOf, unpackOf, viewOf, mergeOf, sumsOf};
+ghost use Rattle.model.specs.Calls.{startOf, feedOf, unpackedTo, unpackOf, viewOf, mergeOf, sumsOf};
 ghost use Rattle.c_api.specs.Words.{narrowed, recordIn};
-ghost use Rattle.c_api.specs.Lent.{lent, handed, unpacked, two, twoOf};
+ghost use Rattle.c_api.specs.Lent.{lent, handed, two, twoOf};
 
 #[no_mangle]
 pub extern "C" fn lp_start(
@@ -48,7 +48,7 @@ pub extern "C" fn lp_feed(
 
 #[no_mangle]
 pub extern "C" fn lp_unpack(words: &[u32; 5], regs: &[u8], aux: &[u32], out: &mut [u8]) -> u32
-    ensures { λ r. ⌜ unpacked r (now (out .exit)) ≡ unpackOf (recordIn (now (words .entry))) (now (regs .entry)) (now (aux .entry)) (now (out .entry)) ⌝ }
+    ensures { λ r. ⌜ unpackedTo r (now (out .exit)) ≡ unpackOf (recordIn (now (words .entry))) (now (regs .entry)) (now (aux .entry)) (now (out .entry)) ⌝ }
 {
     number(sketch::unpack(get(words), regs, aux, out))
 }

@@ -1,6 +1,7 @@
 // What the programs read and write: thin, since no contract can say what a file holds.
-ghost use Prim.Native.Nat.{_+_, _≤_};
-ghost use lib.ListN.{length};
+ghost use Prim.Native.Nat.{ℕ, _+_, _-_, _≤_, _<_};
+ghost use mathlib.Core.Path.{_≡_};
+ghost use lib.ListN.{length, getD};
 ghost use Rattle.io.specs.Counts.{Counts};
 
 // How many bytes came, and whether a read failed.
@@ -67,7 +68,8 @@ fn is_free(path: &[u8]) -> bool {
     synced == 0
 }
 
-// All of the bytes, down to the disk. A temporary file is its maker's alone; this one is for others to read.
+// All of the bytes, down to the disk. A temporary file is its maker's alone; this one is for others to read. That is passed over where the
+// file system keeps no modes: the bytes are what is asked for.
 fn fill(fd: i32, bytes: &[u8]) -> bool {
     let written = io::write_all(fd, bytes);
     libc::fchmod(fd, 0o644);
@@ -91,6 +93,42 @@ fn beside(path: &[u8], name: &mut [u8; 240]) -> usize
     text::put(name, n, b".XXXXXX")
 }
 
+// How many bytes of a path name its folder: all to its last '/', with it, so that the root is no case of its own; 0 where there is none.
+fn folder_len(path: &[u8]) -> usize
+    ensures within { λ r. ⌜ Counts r (now (path .entry)) ⌝ }
+    ensures slash { λ r. ⌜ (0 < r → getD (now (path .entry)) (r - 1) 0 ≡ 47) ⌝ }
+    ensures last { λ r. ⌜ ((k : ℕ) → r ≤ k → k < length (now (path .entry)) → getD (now (path .entry)) k 0 ≡ 47 → ⊥) ⌝ }
+{
+    let mut n = path.len();
+    while 0 < n {
+        let before = n - 1;
+        if path[before] == b'/' {
+            break;
+        }
+        n = before;
+    }
+    n
+}
+
+fn open_folder(path: &[u8]) -> i32 {
+    let n = folder_len(path);
+    if n == 0 {
+        return os::open_read(b".");
+    }
+    os::open_read(&path[..n])
+}
+
+// The name of a file that was renamed, down to the disk, where the file system can do that. Some cannot sync a folder, and it is not an
+// answer: the new file is in its place by now, and to say that it is not would be false.
+fn sync_folder(path: &[u8]) {
+    let fd = open_folder(path);
+    if fd < 0 {
+        return;
+    }
+    libc::fsync(fd);
+    libc::close(fd);
+}
+
 // A file of these bytes, made under a new name and renamed to path; where that fails, nothing stays behind.
 fn replace_by(name: &mut [u8], path: &[u8], bytes: &[u8]) -> bool {
     let fd = os::create_temp(name);
@@ -101,6 +139,7 @@ fn replace_by(name: &mut [u8], path: &[u8], bytes: &[u8]) -> bool {
     if filled {
         let renamed = os::rename(name, path);
         if renamed == 0 {
+            sync_folder(path);
             return true;
         }
     }

@@ -1,17 +1,16 @@
 -- A line with a path, and the reading of it: each is the other's way back.
-use mathlib.Core.Path.{_≡_, refl, sym, ap, _∙_, subst}
+use mathlib.Core.Path.{_≡_, refl, sym, ap, _∙_}
 use mathlib.Core.Bool.{Bool, true, false}
 use mathlib.Core.List.{List, [], _∷_, _++_, append-assoc}
 use Prim.Native.Nat.{ℕ, zero, suc, _+_, _≤_, _<_, zero-le, suc-le-suc}
 use native.Mathlib.Nat.{not-suc-le-zero, le-of-suc-le-suc}
 use native.Mathlib.Omega.{arith}
 use native.Mathlib.Numerals.{add-one}
-use lib.Dec.{eqb, leb, ltb}
+use lib.Dec.{eqb, leb}
 use lib.ListN.{length, getD, take, drop, length-drop, drop-of-length-le}
 use lib.Seq.{split-at, drop-cons, drop-drop, length-take-le, getD-take, getD-append-seam, drop-append-seam}
 use borrow.Author.Tests.{eqb-true, leb-true, le-leb, eq-eqb}
 use Rattle.model.specs.Pick.{pick, both, Tells}
-use Rattle.model.proofs.FirstLaws.{true-not-false}
 use Rattle.model.proofs.Tells.{tells-both, tells-le, tells-true}
 use Rattle.text.specs.Text.{text, line, standsAt}
 use Rattle.text.proofs.Standing.{stands-front, stands-before}

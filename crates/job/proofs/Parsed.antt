@@ -1,10 +1,10 @@
 -- The outcomes of judging a job, in the code's places. Assumes nothing.
 use mathlib.Core.Path.{_≡_, refl, sym, ap, _∙_, subst}
 use mathlib.Core.Bool.{Bool, true, false}
-use mathlib.Core.List.{List, [], _∷_, _++_}
-use Prim.Native.Nat.{ℕ, suc, _+_, _-_, _≤_, _<_}
+use mathlib.Core.List.{List}
+use Prim.Native.Nat.{ℕ, _+_, _-_, _≤_, _<_}
 use native.Mathlib.Omega.{arith}
-use lib.Dec.{eqb, leb}
+use lib.Dec.{eqb}
 use lib.ListN.{length, take, drop, length-drop, length-append}
 use lib.Seq.{drop-drop}
 use borrow.Author.Tests.{eqb-true, ne-eqb}
@@ -14,7 +14,7 @@ use Rattle.text.specs.Text.{text}
 use Rattle.job.specs.Job.{Job, noJob, sizeLine, inLines, sizeIn, pathIn, insIn, jobOf, placesOf}
 use Rattle.job.specs.declared.Places.{Places}
 use Rattle.job.proofs.Lines.{path-room}
-use Rattle.job.proofs.Texts.{tests, tests-tell, afterOf, insOf, lastOf, outOf, readOf, size-line, ins-text}
+use Rattle.job.proofs.Texts.{tests, tests-tell, insOf, lastOf, outOf, readOf, size-line, ins-text}
 
 -- what the tests ask
 abbrev Asked : List ℕ → Type 0
@@ -109,25 +109,26 @@ module _ (l : List ℕ) (lgk : ℕ) (size : lgk ≡ sizeIn l) (some : lgk ≡ 0 
             let t : places lgk files first last ≡ places (sizeIn l) (length (insOf l)) (length (sizeLine (sizeIn l))) (length (sizeLine (sizeIn l)) + length (inLines (insOf l))) = cc in
             t ∙ sym (ap (λ (b : Bool). placesOf (pick b (readOf l) noJob)) ok ∙ simp z)
 
--- what the places of a job say: its size fits, so many `in=` lines start at the first, and an `out=` line at the last
-pub record Says (l : List ℕ) (p : Places) : Type 0 where
+-- what the places of a job say: its size fits, its `in=` lines start at the first, and its `out=` line at the last
+pub record Says (l : List ℕ) (j : Job) (p : Places) : Type 0 where
   pub low : 4 ≤ p .«lg_k»
   pub high : p .«lg_k» ≤ 12
-  pub lists : p .files ≡ length (insIn 64 (drop (p .first) l))
+  pub ins-are : j .ins ≡ insIn 64 (drop (p .first) l)
   pub names : 0 < pathIn (text "out=") (drop (p .last) l)
+  pub out-is : j .out ≡ take (pathIn (text "out=") (drop (p .last) l)) (drop 4 (drop (p .last) l))
 
-pub places-say : (l : List ℕ) (p : Places) → p ≡ placesOf (jobOf l) → (p .«lg_k» ≡ 0 → ⊥) → Says l p
+pub places-say : (l : List ℕ) (p : Places) → p ≡ placesOf (jobOf l) → (p .«lg_k» ≡ 0 → ⊥) → Says l (jobOf l) p
 unfolding jobOf placesOf
-places-say l p e h = subst (Says l) (sym e) (go (tests l (sizeIn l) (insOf l) (lastOf l) (outOf l)) (tests-tell l (sizeIn l) (insOf l) (lastOf l) (outOf l) .0) (λ z. h (ap (λ (p : Places). p .«lg_k») e ∙ z)))
+places-say l p e h = subst (Says l (jobOf l)) (sym e) (go (tests l (sizeIn l) (insOf l) (lastOf l) (outOf l)) (tests-tell l (sizeIn l) (insOf l) (lastOf l) (outOf l) .0) (λ z. h (ap (λ (p : Places). p .«lg_k») e ∙ z)))
   where
-    read : Asked l → Says l (placesOf (readOf l))
+    read : Asked l → Says l (readOf l) (placesOf (readOf l))
     read a =
         let s = size-line l (a .1 .0) in
         let d = sym (drop-drop (length (inLines (insOf l))) (length (sizeLine (sizeIn l))) l) in
         let z : eqb (sizeIn l) 0 ≡ false = ne-eqb (sizeIn l) 0 (λ e. omega arith) in
-        rw z (record { low = s .low; high = s .high; lists = refl; names = rw d (a .1 .1 .1 .0) })
+        rw z (record { low = s .low; high = s .high; ins-are = refl; names = rw d (a .1 .1 .1 .0); out-is = rw d refl })
 
-    go : (b : Bool) → (b ≡ true → Asked l) → (placesOf (pick b (readOf l) noJob) .«lg_k» ≡ 0 → ⊥) → Says l (placesOf (pick b (readOf l) noJob))
+    go : (b : Bool) → (b ≡ true → Asked l) → (placesOf (pick b (readOf l) noJob) .«lg_k» ≡ 0 → ⊥) → Says l (pick b (readOf l) noJob) (placesOf (pick b (readOf l) noJob))
     go true f h = read (f refl)
     go false f h = absurd (h refl)
 

@@ -9,13 +9,13 @@ use native.Mathlib.Decide.{decLt}
 use lib.Dec.{eqb, leb, ltb}
 use lib.ListN.{length, take, drop, length-drop, length-append, drop-of-length-le}
 use lib.Seq.{drop-drop, length-take-le, drop-append-seam, take-append-seam, drop-at}
-use borrow.Author.Tests.{eqb-true, eqb-false, eq-eqb, ne-eqb, leb-true, ltb-true, lt-ltb, le-ltb, le-leb}
+use borrow.Author.Tests.{eqb-false, ltb-true, lt-ltb, le-ltb}
 use Rattle.model.specs.Pick.{pick, both, first, Tells}
 use Rattle.model.proofs.Tells.{tells-both, tells-le, tells-lt, tells-eq, tells-true}
 use Rattle.model.proofs.FirstLaws.{first-holds, first-is, true-not-false}
-use Rattle.text.specs.Text.{text, line, decimal, spelt, standsAt}
+use Rattle.text.specs.Text.{text, line, spelt, standsAt}
 use Rattle.text.proofs.Standing.{stands-front}
-use Rattle.job.specs.Job.{Job, job, noJob, sizeLine, inLines, textOf, sizeIn, pathIn, insIn, jobOf, Path, Paths, Fit}
+use Rattle.job.specs.Job.{Job, job, noJob, sizeLine, inLines, textOf, sizeIn, pathIn, insIn, jobOf, Paths, Fit}
 use Rattle.job.proofs.Lines.{path-room, path-is, path-line, line-path}
 use Rattle.job.proofs.Walk.{ins-end, ins-more}
 

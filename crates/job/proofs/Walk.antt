@@ -1,7 +1,7 @@
 -- The outcomes of reading a line at a place of the job. Assumes nothing.
-use mathlib.Core.Path.{_≡_, refl, sym, ap, _∙_, subst}
+use mathlib.Core.Path.{_≡_, refl, sym, ap, _∙_}
 use mathlib.Core.Bool.{Bool, true, false}
-use mathlib.Core.List.{List, [], _∷_, _++_}
+use mathlib.Core.List.{List, [], _∷_}
 use Prim.Native.Nat.{ℕ, zero, suc, _+_, _-_, _≤_, _<_}
 use native.Mathlib.Omega.{arith}
 use lib.Dec.{eqb, leb}
@@ -90,7 +90,7 @@ module _ (l : List ℕ) (end n : ℕ) (is : n ≡ pathIn (text "in=") (drop end 
   path-long-as : length (take n (drop 3 (drop end l))) ≡ n
   path-long-as = length-take-le n (drop 3 (drop end l)) (simp (length-drop) (let r = line-room in omega arith))
 
-  next : (f g : ℕ) → f ≡ suc g → insIn f (drop end l) ≡ take n (drop 3 (drop end l)) ∷ insIn g (drop (end + (n + 4)) l)
+  pub next : (f g : ℕ) → f ≡ suc g → insIn f (drop end l) ≡ take n (drop 3 (drop end l)) ∷ insIn g (drop (end + (n + 4)) l)
   next f g q =
       let e = ins-more g (drop end l) (λ z. some (is ∙ z)) in
       let d = ap (λ (m : List ℕ). insIn g m) (ap (λ (k : ℕ). drop (k + 4) (drop end l)) (sym is) ∙ drop-drop (n + 4) end l) in

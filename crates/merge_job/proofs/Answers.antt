@@ -1,16 +1,16 @@
 -- The numbers that a file can get: NO_ROOM is none of them, nor is what speaks of the target, of lent memory or of the job. Assumes nothing.
-use mathlib.Core.Path.{_≡_, refl, subst}
+use mathlib.Core.Path.{_≡_, refl}
 use mathlib.Core.Bool.{Bool, true, false}
 use mathlib.Core.List.{List, [], _∷_}
-use Prim.Native.Nat.{ℕ, suc, _+_, _-_, _*_, _^_, _≤_}
+use Prim.Native.Nat.{ℕ, suc, _^_, _≤_}
 use native.Mathlib.Nat.{le-refl}
 use native.Mathlib.Omega.{arith}
 use lib.Dec.{eqb, leb}
 use lib.ListN.{length, getD, length-replicate}
 use lib.Pow.{pow-mono}
 use borrow.Author.Tests.{eqb-true}
-use Rattle.model.specs.Pick.{pick, both, all, first, firstOf}
-use Rattle.model.specs.Table.{baseFor, sizeFor, tableSize}
+use Rattle.model.specs.Pick.{pick, both, firstOf}
+use Rattle.model.specs.Table.{baseFor, tableSize}
 use Rattle.model.specs.Sketch.{isKind, Good}
 use Rattle.model.specs.Check.{lgkNo}
 use Rattle.model.specs.Calls.{Out, mergeOf}
@@ -18,29 +18,17 @@ use Rattle.model.specs.Image.{sketchIn}
 use Rattle.model.specs.Claims.{Unless, refused, passed, SketchLines}
 use Rattle.model.specs.declared.Sketch.{Sketch}
 use Rattle.model.proofs.FirstLaws.{true-not-false}
-use Rattle.model.proofs.Tells.{tells-all, tells-le}
 use Rattle.model.proofs.Shape.{size-shorter}
 use Rattle.model.proofs.Demand1.{kind-tells}
+use Rattle.model.proofs.Standing.{twice-room}
 use Rattle.model.proofs.Kept.{good-bytes}
 use Rattle.model.proofs.Claims.{demand-1, opens-good}
 use Rattle.judge.specs.Ladder.{frontNo}
 use Rattle.merge_job.specs.Merge.{fileNo, openedOf, joinOf, takeOf, File, unread, came, fileOf, Merging, mergeAll}
 use Rattle.merge_job.specs.Promised.{Merged, Target}
+use Rattle.merge_job.specs.Claims.{answers, among, Answers}
 use Rattle.merge_job.proofs.Filed.{Fits, fits}
 use Rattle.merge_job.proofs.Keeps.{take-keeps}
-
--- the numbers that a file can get
-abbrev pub answers : List ℕ
-answers = 0 ∷ 2 ∷ 5 ∷ 7 ∷ 8 ∷ 9 ∷ 10 ∷ 11 ∷ 12 ∷ 13 ∷ 14 ∷ 15 ∷ 17 ∷ 19 ∷ 20 ∷ []
-
--- a number stands in a list
-unfoldable pub among : ℕ → List ℕ → Bool
-among n [] = false
-among n (m ∷ ms) = pick (eqb n m) true (among n ms)
-
--- it is one of them
-pub record Answers (n : ℕ) : Type 0 where
-  pub is : among n answers ≡ true
 
 -- no other number is
 pub none-other : {n : ℕ} → Answers n → (m : ℕ) → among m answers ≡ false → n ≡ m → ⊥
@@ -86,16 +74,8 @@ unopened-answers l =
     (rung (isKind (s .kind)) 9 _ refl (rung (both (leb 4 (s .«lg_k»)) (leb (s .«lg_k») 21)) 2 _ refl (rung (leb (s .«lg_k») 12) 20 _ refl last-answers))))
 
 -- ---- opening
--- a table for all registers has at most two words for each
-pub twice-room : (lgk : ℕ) → 4 ≤ lgk → lgk ≤ 21 → tableSize (baseFor lgk) (2 ^ lgk) ≤ 2 * 2 ^ lgk
-unfolding all tableSize sizeFor baseFor first
-twice-room lgk l h =
-    let e : 4 + (lgk - 4) ≡ lgk = omega arith in
-    let test = tells-all (λ i. leb (tableSize (baseFor (4 + i)) (2 ^ (4 + i))) (2 * 2 ^ (4 + i))) (λ i. tableSize (baseFor (4 + i)) (2 ^ (4 + i)) ≤ 2 * 2 ^ (4 + i)) 18 (λ i. tells-le _ _) in
-    subst (λ (n : ℕ). tableSize (baseFor n) (2 ^ n) ≤ 2 * 2 ^ n) e (test .0 refl (lgk - 4) (omega arith))
-
 -- so 8,192 words are room for the exceptions of an image that is not LARGE
-room : (lgk count : ℕ) → 4 ≤ lgk → lgk ≤ 12 → count ≤ 2 ^ lgk → tableSize (baseFor lgk) count ≤ 8192
+pub room : (lgk count : ℕ) → 4 ≤ lgk → lgk ≤ 12 → count ≤ 2 ^ lgk → tableSize (baseFor lgk) count ≤ 8192
 room lgk count l h c =
     let most : 2 ^ lgk ≤ 2 ^ 12 = pow-mono h in
     omega (arith, size-shorter (baseFor lgk) count (2 ^ lgk) c, twice-room lgk l (omega arith))

@@ -1,40 +1,42 @@
 -- How a run starts and ends: an empty target, and the image of all, which is never refused. Assumes nothing.
-use mathlib.Core.Path.{_≡_, refl, sym, ap, _∙_, subst}
-use mathlib.Core.Bool.{Bool, true, false}
-use mathlib.Core.List.{List, [], _∷_, _++_}
-use Prim.Native.Nat.{ℕ, _+_, _-_, _≤_, _<_, zero-le}
+use mathlib.Core.Path.{_≡_, refl, sym, ap, ap₂, _∙_, subst}
+use mathlib.Core.Bool.{Bool, false}
+use mathlib.Core.List.{List, []}
+use Prim.Native.Nat.{ℕ, _+_, _-_, _≤_, zero-le}
+use native.Mathlib.Nat.{le-refl}
 use native.Mathlib.Omega.{arith}
 use lib.Dec.{eqb}
 use lib.ListN.{length, take, drop, replicate, length-drop, length-replicate}
+use lib.Seq.{drop-drop, take-at, take-length}
 use borrow.Author.Tests.{eq-eqb, ne-eqb}
 use Rattle.model.specs.Pick.{pick}
 use Rattle.model.specs.Packed.{Bytes}
-use Rattle.model.specs.Table.{keeps}
-use Rattle.model.specs.Sketch.{isKind, bytesOf, areaOf, tableIn, Good}
+use Rattle.model.specs.Sketch.{isKind, bytesOf, areaOf, Good}
 use Rattle.model.specs.Calls.{Out, out, keptOut, startOf}
-use Rattle.model.specs.Image.{imageIn, Written, wrote, writeNo, writeOf}
+use Rattle.model.specs.Image.{imageIn, Written, writeOf}
 use Rattle.model.specs.declared.Sketch.{Sketch}
-use Rattle.model.proofs.Ladder.{shape-says, check-says}
-use Rattle.model.proofs.Kept.{start-has, ok-check, good-bytes}
-use Rattle.model.proofs.Listing.{listing}
-use Rattle.model.proofs.Writing.{image-long, write-says, writes}
+use Rattle.model.proofs.Ladder.{shape-says}
+use Rattle.model.proofs.Kept.{start-has}
+use Rattle.model.proofs.Writing.{image-long}
+use Rattle.model.proofs.Room.{no-words, image-written}
 use Rattle.sums.specs.Tally.{Registers}
 use Rattle.sketch_sums.proofs.Outcomes.{eight-registers}
 use Rattle.text.specs.Text.{text, Holds}
 use Rattle.job.specs.Job.{pathIn, jobOf, placesOf}
 use Rattle.job.specs.declared.Places.{Places}
 use Rattle.job.proofs.Lines.{path-room}
-use Rattle.job.proofs.Parsed.{places-say, places-are, places-none}
+use Rattle.job.proofs.Parsed.{Says, places-say, places-are, places-none}
+use Rattle.job.proofs.Texts.{job-text}
 use Rattle.report.specs.Report.{refusedText, mergedText}
 use Rattle.merge_job.specs.Merge.{Merging, mergeAll, mergedOf, reportOf}
-use Rattle.merge_job.specs.Promised.{Target, Small, Names, Merged, Asked, Finished, Reported}
+use Rattle.merge_job.specs.Promised.{Target, Lists, Merged, Asked, Whole, Puts, Finished, Reported}
 use Rattle.merge_job.proofs.Joining.{bytes-room, zeros-front}
 use Rattle.merge_job.proofs.Keeps.{all-keep}
 
 -- ---- the end
--- the path of the output
-pub out-room : (l : List ℕ) (at n : ℕ) → Names l at → n ≡ pathIn (text "out=") (drop at l) → at + 4 + n + 1 ≤ length l
-out-room l at n h e = let r = path-room (text "out=") (drop at l) h in let d = length-drop at l in omega arith
+-- what is written is a target of a size that may be asked for
+abbrev Small : Sketch → List ℕ → Type 0
+Small t tregs = (lgk : ℕ) × (lgk ≤ 12) × Target lgk t tregs
 
 module _ (s : Sketch) (regs : List ℕ) (small : Small s regs) where
   abbrev g : Target (small .0) s regs
@@ -42,24 +44,19 @@ module _ (s : Sketch) (regs : List ℕ) (small : Small s regs) where
 
   -- the image has 40 bytes and one for each register
   image-small : length (imageIn s regs []) ≤ 4136
-  unfolding tableIn keeps
   image-small =
       let e = image-long s regs [] (g .good) in
       let b = bytes-room (s .kind) (s .«lg_k») (rw (g .size) (small .1)) in
-      let n : length (listing s []) ≡ 0 = rw (ne-eqb (s .kind) 4 (λ q. let k = g .eight in omega arith)) in
+      let n = no-words s regs [] (g .good) (λ q. let k = g .eight in omega arith) in
       omega arith
 
   -- and is written whole
-  pub written : (buf : List ℕ) (w : Written) → w ≡ writeOf s regs [] buf → length buf ≡ 4136 → (w .no ≡ 0) × ((w .len ≡ length (imageIn s regs [])) × (w .len ≤ 4136))
-  written buf w e b =
-      let c = check-says true s regs [] .0 (ok-check true s regs [] refl (g .good)) in
+  written-small : (buf : List ℕ) (w : Written) → w ≡ writeOf s regs [] buf → length buf ≡ 4136 → (take (w .len) (w .out) ≡ imageIn s regs []) × (w .len ≤ 4136)
+  written-small buf w e b =
       let i = image-small in
-      let z = writes s regs [] buf (write-says s regs [] buf .1 ((c .0, c .1 .1), omega arith)) in
-      let l : w .len ≡ length (imageIn s regs []) = ap (λ (w : Written). w .len) (e ∙ z) in
-      (ap (λ (w : Written). w .no) (e ∙ z), (l, omega arith))
-
-  pub tellable : Bytes regs → Registers regs
-  tellable b = eight-registers s regs [] (g .eight) b (g .good)
+      let z = e ∙ image-written s regs [] (g .good) buf (omega arith) in
+      let l : w .len ≡ length (imageIn s regs []) = ap (λ (w : Written). w .len) z in
+      (ap (λ (w : Written). take (w .len) (w .out)) z ∙ take-at (imageIn s regs []) _ _ refl, omega arith)
 
 -- ---- the start
 pub started : (lgk : ℕ) (regs : List ℕ) (o : Out) → 4 ≤ lgk → lgk ≤ 12 → length regs ≡ bytesOf 8 lgk → o ≡ startOf 8 lgk regs [] → Target lgk (o .sketch) (o .regs)
@@ -71,11 +68,40 @@ started lgk regs o a b e q =
     subst (λ (o : Out). Target lgk (o .sketch) (o .regs)) (sym q)
     (record { eight = h .same-kind; size = h .same-size; good = subst (λ (aux : List ℕ). Good (startOf 8 lgk regs [] .sketch) (startOf 8 lgk regs [] .regs) aux) x (h .good) })
 
--- ---- between them
-pub all-small : (lgk files : ℕ) (t : Sketch) (tregs : List ℕ) (m : Merging) → lgk ≤ 12 → Target lgk t tregs → Merged files t tregs m → m .no ≡ 0 → Small (m .sketch) (m .regs)
-all-small lgk files t tregs m b g h z =
-    let k = all-keep lgk 0 t tregs (h .read) g (ap (λ (m : Merging). m .no) (sym (h .is)) ∙ z) .0 in
-    subst (λ (m : Merging). Small (m .sketch) (m .regs)) (sym (h .is)) (lgk, b, k)
+-- ---- all files merged
+-- an empty target of a job's size
+pub job-started : (l : List ℕ) → (jobOf l .lgk ≡ 0 → ⊥) → let o = startOf 8 (jobOf l .lgk) (replicate (bytesOf 8 (jobOf l .lgk)) 0) [] in Target (jobOf l .lgk) (o .sketch) (o .regs)
+job-started l some = let f = job-text l some .1 in started (jobOf l .lgk) _ _ (f .lgk-low) (f .lgk-high) (length-replicate _ 0) refl
+
+module _ (l : List ℕ) (s : Sketch) (regs : List ℕ) (w : Whole l s regs) where
+  small : Small s regs
+  unfolding mergedOf
+  small =
+      let k = all-keep (jobOf l .lgk) 0 _ _ (w .read) (job-started l (w .some)) (w .passed) .0 in
+      (jobOf l .lgk, job-text l (w .some) .1 .lgk-high, rw (w .sketch-is, w .regs-are) k)
+
+  pub written : (buf : List ℕ) (w : Written) → w ≡ writeOf s regs [] buf → length buf ≡ 4136 → (take (w .len) (w .out) ≡ imageIn s regs []) × (w .len ≤ 4136)
+  written = written-small s regs small
+
+  pub tellable : Bytes regs → Registers regs
+  tellable b = eight-registers s regs [] (small .2 .eight) b (small .2 .good)
+
+  -- where it is put
+  module _ (p : Places) (is : p ≡ placesOf (jobOf l)) (n : ℕ) (path : n ≡ pathIn (text "out=") (drop (p .last) l)) where
+    says : Says l (jobOf l) p
+    says = places-say l p is (λ z. w .some (places-none (jobOf l) p is z))
+
+    pub out-room : p .last + 4 + n + 1 ≤ length l
+    out-room = let r = path-room (text "out=") (drop (p .last) l) (says .names) in let d = length-drop (p .last) l in omega arith
+
+    pub puts : (image : List ℕ) → image ≡ imageIn s regs [] → Puts l (take (p .last + 4 + n - (p .last + 4)) (drop (p .last + 4) l)) image
+    puts image e = record {
+      sketch = s;
+      regs = regs;
+      whole = w;
+      path-is = ap₂ (λ (n : ℕ) (m : List ℕ). take n m) (let same : p .last + 4 + n - (p .last + 4) ≡ n = omega arith in same ∙ path) (sym (drop-drop 4 (p .last) l)) ∙ sym (says .out-is);
+      image-is = e;
+    }
 
 -- as many registers as are asked for
 module _ (l : List ℕ) (p : Places) (is : p ≡ placesOf (jobOf l)) (some : p .«lg_k» ≡ 0 → ⊥) (k : ℕ) (size : k ≡ bytesOf 8 (p .«lg_k»)) where
@@ -89,11 +115,18 @@ module _ (l : List ℕ) (p : Places) (is : p ≡ placesOf (jobOf l)) (some : p .
   asked = record { is = is; some = some; zeros = zeros-front k 4096 registers-room ∙ ap (λ (n : ℕ). replicate n 0) size }
 
 -- ---- the report
+-- the front of the buffer alone is told
+pub told : (l new : List ℕ) (r : ℕ) → Reported l new r → Reported l (take r new) (length (take r new))
+told l new r h = record { read = h .read; put = h .put; most = h .most; whole = h .whole; holds = record { counts = (le-refl _, ap length (sym (take-length (take r new)))); bytes = take-length (take r new) ∙ h .holds .bytes } }
+
 pub no-job-reported : (l : List ℕ) (p : Places) → p ≡ placesOf (jobOf l) → p .«lg_k» ≡ 0 → (new : List ℕ) (r : ℕ) → Holds new r (refusedText 18 0) → Reported l new r
 unfolding reportOf
 no-job-reported l p is z new r h =
     let e = places-none (jobOf l) p is z in
     record { read = []; put = false; most = zero-le; whole = λ n y. absurd (n e); holds = rw (eq-eqb (jobOf l .lgk) 0 e) h }
+
+pub lists : (l : List ℕ) (p : Places) (regs : List ℕ) → Asked l p regs → Lists l (p .first) (p .files)
+lists l p regs a = record { ins-are = places-say l p (a .is) (a .some) .ins-are; many = places-are (jobOf l) p (a .is) (a .some) .1 }
 
 module _ (l : List ℕ) (p : Places) (regs : List ℕ) (a : Asked l p regs) (o : Out) (start : o ≡ startOf 8 (p .«lg_k») regs []) (m : Merging) (merged : Merged (p .files) (o .sketch) (o .regs) m) where
   same-size : p .«lg_k» ≡ jobOf l .lgk
@@ -114,6 +147,16 @@ module _ (l : List ℕ) (p : Places) (regs : List ℕ) (a : Asked l p regs) (o :
 
   abbrev said : Bool → ℕ → ℕ → Merging → List ℕ
   said put files lgk m = pick (eqb (m .no) 0) (pick put (mergedText files lgk (m .regs)) (refusedText 19 0)) (refusedText (m .no) (m .file))
+
+  pub all-whole : m .no ≡ 0 → Whole l (m .sketch) (m .regs)
+  all-whole z = record {
+    some = λ e. a .some (same-size ∙ e);
+    read = merged .read;
+    all = merged .whole z ∙ same-files;
+    passed = ap (λ (m : Merging). m .no) (sym same-merging) ∙ z;
+    sketch-is = ap (λ (m : Merging). m .sketch) same-merging;
+    regs-are = ap (λ (m : Merging). m .regs) same-merging;
+  }
 
   reports : (put : Bool) → said put (p .files) (p .«lg_k») m ≡ reportOf l (merged .read) put
   unfolding reportOf

@@ -1,12 +1,11 @@
 -- Files that are merged keep the target a sketch of kind 8 in good order, and its registers are those of all. Assumes nothing.
-use mathlib.Core.Path.{_≡_, refl, sym, ap, _∙_, subst}
+use mathlib.Core.Path.{_≡_, refl, ap, _∙_}
 use mathlib.Core.Bool.{Bool, true, false}
 use mathlib.Core.List.{List, [], _∷_}
 use Prim.Native.Nat.{ℕ, suc, _^_}
 use native.Mathlib.Omega.{arith}
 use lib.Dec.{eqb}
-use lib.ListN.{length, replicate}
-use borrow.Author.Tests.{eqb-true, eqb-false, eq-eqb, ne-eqb}
+use borrow.Author.Tests.{eqb-true, eqb-false}
 use Rattle.model.specs.Pick.{pick}
 use Rattle.model.specs.Packed.{Bytes}
 use Rattle.model.specs.Registers.{joined}
@@ -15,7 +14,7 @@ use Rattle.model.specs.Calls.{Out, out, mergeNo, mergeOf}
 use Rattle.model.specs.declared.Sketch.{Sketch}
 use Rattle.model.proofs.Claims.{opens-good}
 use Rattle.model.proofs.Kept.{merge-has}
-use Rattle.merge_job.specs.Merge.{fileNo, openedOf, joinOf, takeOf, File, unread, came, fileOf, Merging, merging, mergeAll, registersIn, joinedAll}
+use Rattle.merge_job.specs.Merge.{fileNo, openedOf, joinOf, takeOf, File, unread, came, merging, mergeAll, registersIn, joinedAll}
 use Rattle.merge_job.specs.Promised.{Target}
 
 -- what came of one that is not refused

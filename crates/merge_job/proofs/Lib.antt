@@ -1,4 +1,5 @@
 pub mod Answers
+pub mod Claims
 pub mod Ends
 pub mod Filed
 pub mod Joining

@@ -1,11 +1,15 @@
 // The merge program of document 01 as a library: one run reads a job, merges its images and writes the image of all.
+use files::Got;
 use job::Places;
 use model::Sketch;
 ghost use mathlib.Core.Path.{_≡_};
 ghost use mathlib.Core.List.{[]};
+ghost use lib.ListN.{length, getD};
+ghost use Rattle.io.specs.Counts.{Counts};
 ghost use Rattle.model.specs.Calls.{out};
+ghost use Rattle.job.specs.Job.{jobOf, placesOf};
 ghost use Rattle.merge_job.specs.Merge.{fileNo, joinOf, takeOf, merging};
-ghost use Rattle.merge_job.specs.Promised.{Took, Merged, Lists, Lent, Small, Names, Asked, Finished, Reported};
+ghost use Rattle.merge_job.specs.Promised.{Took, TookSome, Merged, Lists, Lent, Asked, Whole, Puts, Finished, Reported};
 
 // The number of a refusal, or 0, and the target's record.
 pub struct Taken {
@@ -85,19 +89,11 @@ pub fn take(target: Sketch, tregs: &mut [u8], image: &[u8]) -> Taken
     join(target, tregs, image, &mut regs[..n], &mut aux, &mut scratch)
 }
 
-// What came of a file.
-fn take_came(target: Sketch, tregs: &mut [u8], image: &[u8]) -> Taken
-    ensures { λ r. ⌜ Took target (now (tregs .entry)) (out (r .no) (r .sketch) 0 (now (tregs .exit)) []) ⌝ }
+// What came of a file. Only the bytes that came are passed on: what the buffer has behind them is not the image's.
+fn take_got(target: Sketch, tregs: &mut [u8], got: Got, image: &[u8]) -> Taken
+    requires { ⌜ Counts (got .n) (now image) ⌝ }
+    ensures { λ r. ⌜ Took target (now (tregs .entry)) got (now (image .entry)) (out (r .no) (r .sketch) 0 (now (tregs .exit)) []) ⌝ }
 {
-    take(target, tregs, image)
-}
-
-// The file at a path. Only the bytes that came are passed on: behind them the buffer has zeros, which are not the image's.
-fn take_file(target: Sketch, tregs: &mut [u8], path: &[u8]) -> Taken
-    ensures { λ r. ⌜ Took target (now (tregs .entry)) (out (r .no) (r .sketch) 0 (now (tregs .exit)) []) ⌝ }
-{
-    let mut image = [0u8; 40001];
-    let got = files::load(path, &mut image);
     if got.failed {
         return Taken {
             no: 19,
@@ -105,7 +101,23 @@ fn take_file(target: Sketch, tregs: &mut [u8], path: &[u8]) -> Taken
         };
     }
     let n = got.n;
-    take_came(target, tregs, &image[..n])
+    take(target, tregs, &image[..n])
+}
+
+// Image i of the job, from 0, through the buffer: no other path may be handed to the reader.
+fn take_file(
+    target: Sketch,
+    tregs: &mut [u8],
+    job: &[u8],
+    i: usize,
+    path: &[u8],
+    image: &mut [u8; 40001],
+) -> Taken
+    requires { ⌜ now path ≡ getD (jobOf (now job) .ins) i [] ⌝ }
+    ensures { λ r. ⌜ TookSome target (now (tregs .entry)) (now (image .exit)) (out (r .no) (r .sketch) 0 (now (tregs .exit)) []) ⌝ }
+{
+    let got = files::load(path, image);
+    take_got(target, tregs, got, image)
 }
 
 // A refusal's number and the position of its file from 1, or 0 and the number of files; and the target's record.
@@ -120,6 +132,7 @@ fn merge_all(target: Sketch, tregs: &mut [u8], job: &[u8], first: usize, files: 
     requires { ⌜ Lists (now job) first files ⌝ }
     ensures { λ r. ⌜ Merged files target (now (tregs .entry)) (merging (r .no) (r .file) (r .sketch) (now (tregs .exit))) ⌝ }
 {
+    let mut image = [0u8; 40001];
     let mut sketch = target;
     let mut at = first;
     let mut done = 0;
@@ -127,7 +140,7 @@ fn merge_all(target: Sketch, tregs: &mut [u8], job: &[u8], first: usize, files: 
         let n = job::path_in(job, at, b"in=");
         let from = at + 3;
         let end = from + n;
-        let taken = take_file(sketch, tregs, &job[from..end]);
+        let taken = take_file(sketch, tregs, job, done, &job[from..end], &mut image);
         sketch = taken.sketch;
         if taken.no != 0 {
             return Ran {
@@ -146,9 +159,16 @@ fn merge_all(target: Sketch, tregs: &mut [u8], job: &[u8], first: usize, files: 
     }
 }
 
+// No other bytes and no other path may be handed to the writer.
+fn put(job: &[u8], path: &[u8], image: &[u8]) -> bool
+    requires { ⌜ Puts (now job) (now path) (now image) ⌝ }
+{
+    files::replace(path, image)
+}
+
 // The image of all, which always fits into 40 bytes and one for each register, to the path of the `out=` line; and the report.
 fn finish(sketch: Sketch, regs: &[u8], job: &[u8], places: Places, out: &mut [u8; 160]) -> usize
-    requires { ⌜ Small sketch (now regs) × Names (now job) (places .last) ⌝ }
+    requires { ⌜ Whole (now job) sketch (now regs) × (places ≡ placesOf (jobOf (now job))) ⌝ }
     ensures { λ r. ⌜ Finished (places .files) (places .«lg_k») (now (regs .entry)) (now (out .exit)) r ⌝ }
 {
     let mut image = [0u8; 4136];
@@ -157,8 +177,8 @@ fn finish(sketch: Sketch, regs: &[u8], job: &[u8], places: Places, out: &mut [u8
     let n = job::path_in(job, places.last, b"out=");
     let from = places.last + 4;
     let end = from + n;
-    let put = files::replace(&job[from..end], &image[..len]);
-    if !put {
+    let done = put(job, &job[from..end], &image[..len]);
+    if !done {
         return report::refused(19, 0, out);
     }
     report::merged(places.files, places.lg_k, regs, out)
@@ -192,6 +212,13 @@ pub fn run_job(job: &[u8], out: &mut [u8; 160]) -> usize
     run_in(&mut regs[..k], job, places, out)
 }
 
+// Nothing but the report of the job may be told.
+fn tell(to: i32, job: &[u8], report: &[u8])
+    requires { ⌜ Reported (now job) (now report) (length (now report)) ⌝ }
+{
+    io::write_all(to, report);
+}
+
 // One run: the job comes from one descriptor, and the report goes to the other. A job that fills the buffer is too long to be one.
 pub fn run(from: i32, to: i32) {
     let mut job = [0u8; 4097];
@@ -204,5 +231,5 @@ pub fn run(from: i32, to: i32) {
     }
     let len = got.n;
     let n = run_job(&job[..len], &mut out);
-    io::write_all(to, &out[..n]);
+    tell(to, &job[..len], &out[..n]);
 }

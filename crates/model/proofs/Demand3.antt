@@ -1,19 +1,17 @@
 -- Demand 3: what the same set of coupons has reached is the same, image and all. Assumes nothing.
 use mathlib.Core.Path.{_≡_, refl, sym, ap, ap₂, _∙_, subst}
-use mathlib.Core.List.{List, [], _∷_}
-use mathlib.Core.Bool.{Bool, true}
-use mathlib.Core.Logic.{_⊎_, inl, inr}
+use mathlib.Core.List.{List, []}
+use mathlib.Core.Logic.{inl, inr}
 use Prim.Native.Nat.{ℕ, max, _^_, _≤_, _<_}
 use native.Mathlib.Omega.{arith}
 use lib.ListN.{length, getD, take, replicate, length-replicate, getD-replicate}
 use lib.Seq.{take-length, ext-getD}
-use lib.Dec.{eqb}
-use borrow.Author.Tests.{ne-eqb, eq-eqb}
+use borrow.Author.Tests.{ne-eqb}
 use Rattle.model.specs.Registers.{fed, largest}
-use Rattle.model.specs.Four.{State, state}
+use Rattle.model.specs.Four.{state}
 use Rattle.model.specs.Sketch.{isKind, bytesOf, recordOf, stored, tableIn, registers, Shaped, Good}
 use Rattle.model.specs.Check.{goodOf, scratchFits, checkNo}
-use Rattle.model.specs.Calls.{Out, startOf, feedOf}
+use Rattle.model.specs.Calls.{Out, startOf}
 use Rattle.model.specs.Image.{imageIn, writeNo, writeOf}
 use Rattle.model.specs.Claims.{SameSet, SameAs, Demand3, freshlyFed, FeedLine}
 use Rattle.model.specs.declared.Sketch.{Sketch}
@@ -92,7 +90,7 @@ module _ (lgk : ℕ) (mem cs : List ℕ) (h : Shaped 8 lgk (length mem)) where
             (bytes-8 lgk R s regs aux (j .good) k z e ∙ sym (bytes-8 lgk R (f .sketch) (f .regs) (f .aux) g′ k′ z′ fresh-registers));
       }
 
-eight-shaped : (lgk len : ℕ) → 4 ≤ lgk → lgk ≤ 21 → len ≡ 2 ^ lgk → Shaped 8 lgk len
+pub eight-shaped : (lgk len : ℕ) → 4 ≤ lgk → lgk ≤ 21 → len ≡ 2 ^ lgk → Shaped 8 lgk len
 unfolding isKind bytesOf
 eight-shaped lgk len a b e = record { is-kind = refl; low = a; high = b; long = e }
 

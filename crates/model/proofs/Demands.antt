@@ -1,27 +1,25 @@
 -- Demands 2 and 3 over any history: every sketch is in good order, and each register is the largest value of what has reached it.
--- Of the calls only `start-has`, `feed-has` and `merge-has` are cited, and that a refused call changes nothing. Assumes nothing.
+-- Of the calls only `start-has`, `feed-has`, `merge-has` and `sent-again` are cited, and that a refused call changes nothing. Assumes nothing.
 use mathlib.Core.Path.{_≡_, refl, sym, ap, _∙_, subst}
 use mathlib.Core.List.{List, [], _∷_, _++_, append-nil}
 use mathlib.Core.Bool.{Bool, true, false}
-use Prim.Native.Nat.{ℕ, max, _^_, _≤_, _<_}
-use native.Mathlib.Omega.{arith}
-use lib.ListN.{length, getD, take, replicate, length-replicate, getD-replicate}
-use lib.Seq.{take-length, ext-getD}
+use Prim.Native.Nat.{ℕ, _^_, _<_}
+use lib.ListN.{length, getD, take, getD-replicate}
 use lib.Dec.{eqb}
-use borrow.Author.Tests.{eqb-true, eqb-false, ne-eqb, eq-eqb}
+use borrow.Author.Tests.{eqb-true}
 use Rattle.model.specs.Pick.{pick}
-use Rattle.model.specs.Registers.{fed, joined, largest}
-use Rattle.model.specs.Four.{State, state}
-use Rattle.model.specs.Sketch.{isKind, bytesOf, registers, Shaped, Good}
+use Rattle.model.specs.Registers.{largest}
+use Rattle.model.specs.Four.{State}
+use Rattle.model.specs.Sketch.{registers, Good}
 use Rattle.model.specs.Check.{shapeNo, scratchFits, checkNo}
-use Rattle.model.specs.Calls.{Out, out, nothing, startOf, feedOf, mergeNo, mergeOf}
-use Rattle.model.specs.History.{Place, none, here, World, Call, start, feed, merge, put, started, feeds, merges, step, after, run}
-use Rattle.model.specs.Claims.{SameSet, IsLargest, Demand2, freshlyFed}
+use Rattle.model.specs.Calls.{Out, nothing, startOf, feedOf, mergeNo, mergeOf}
+use Rattle.model.specs.History.{Place, none, here, World, Call, start, feed, merge, send, put, makes, feeds, merges, sends, step, after, run}
+use Rattle.model.specs.Claims.{Demand2}
 use Rattle.model.specs.declared.Sketch.{Sketch}
-use Rattle.model.proofs.Raising.{length-fed}
-use Rattle.model.proofs.Largest.{fed-at, joined-at, is-largest, largest-same, largest-append}
+use Rattle.model.proofs.Largest.{fed-at, joined-at, is-largest, largest-append}
 use Rattle.model.proofs.Sound.{Has}
 use Rattle.model.proofs.Kept.{start-has, feed-has, merge-says, merge-has, registers-long}
+use Rattle.model.proofs.Sending.{sent-again, sent-good}
 
 -- each register is the largest value of what has reached the sketch
 abbrev pub Each : ℕ → List ℕ → List ℕ → Type 0
@@ -31,7 +29,7 @@ pub record Holding (s : Sketch) (regs aux got : List ℕ) : Type 0 where
   pub good : Good s regs aux
   pub each : Each (s .«lg_k») (registers s regs aux) got
 
-abbrev Holds : Place → Type 0
+abbrev pub Holds : Place → Type 0
 Holds none = Unit {0}
 Holds (here s regs aux got) = Holding s regs aux got
 
@@ -42,11 +40,11 @@ hold kind lgk a s regs aux got h f = record {
   each = subst (λ (n : ℕ). Each n (registers s regs aux) got) (sym (h .same-size)) (λ i q. ap (λ (l : List ℕ). getD l i 0) (h .holds) ∙ f i q);
 }
 
-holds-start : (kind lgk : ℕ) (regs aux : List ℕ) (p : Place) → Holds p → Holds (started (startOf kind lgk regs aux) p)
+holds-start : (kind lgk : ℕ) (regs aux : List ℕ) (p : Place) → Holds p → Holds (makes (startOf kind lgk regs aux) [] p)
 unfolding startOf largest
 holds-start kind lgk regs aux p h = go (eqb (shapeNo kind lgk (length regs)) 0) refl
   where
-    go : (b : Bool) → eqb (shapeNo kind lgk (length regs)) 0 ≡ b → Holds (started (startOf kind lgk regs aux) p)
+    go : (b : Bool) → eqb (shapeNo kind lgk (length regs)) 0 ≡ b → Holds (makes (startOf kind lgk regs aux) [] p)
     go true q =
         let m = start-has kind lgk regs aux (eqb-true (shapeNo kind lgk (length regs)) 0 q) in
         rw (m .0) (hold kind lgk _ _ _ _ [] (m .1) (λ i r. getD-replicate (2 ^ lgk) i 0 0 r))
@@ -72,10 +70,10 @@ unfolding feeds
 holds-feed none scratch cs h = h
 holds-feed (here s regs aux got) scratch cs h = holds-fed s regs aux scratch got cs h
 
-abbrev mergedTo : Out → List ℕ → List ℕ → List ℕ → Place
+abbrev pub mergedTo : Out → List ℕ → List ℕ → List ℕ → Place
 mergedTo o taux got more = here (o .sketch) (o .regs) taux (pick (eqb (o .no) 0) (got ++ more) got)
 
-holds-merged : (t : Sketch) (tregs taux got : List ℕ) (s : Sketch) (sregs saux more : List ℕ) → Holding t tregs taux got → Holding s sregs saux more
+pub holds-merged : (t : Sketch) (tregs taux got : List ℕ) (s : Sketch) (sregs saux more : List ℕ) → Holding t tregs taux got → Holding s sregs saux more
     → Holds (mergedTo (mergeOf t tregs s sregs saux) taux got more)
 unfolding mergeOf
 holds-merged t tregs taux got s sregs saux more h j = go (eqb (mergeNo t tregs s sregs saux) 0) refl
@@ -96,18 +94,29 @@ holds-merge none q h j = h
 holds-merge (here t tregs taux got) none h j = h
 holds-merge (here t tregs taux got) (here s sregs saux more) h j = holds-merged t tregs taux got s sregs saux more h j
 
+holds-pick : (b : Bool) (p q : Place) → (b ≡ true → Holds p) → Holds q → Holds (pick b p q)
+holds-pick true p q f h = f refl
+holds-pick false p q f h = h
+
+holds-send : (p q : Place) (buf regs aux scratch : List ℕ) → Holds p → Holds q → Holds (sends p q buf regs aux scratch)
+unfolding sends
+holds-send none q buf regs aux scratch h j = j
+holds-send (here s sregs saux got) q buf regs aux scratch h j =
+    holds-pick _ _ _ (λ x. holds-pick _ _ _ (λ y.
+    let w = eqb-true _ _ x in
+    let o = eqb-true _ _ y in
+    let a = sent-again s sregs saux buf (h .good) w regs aux scratch o in
+    record { good = sent-good s sregs saux buf (h .good) w regs aux scratch o; each = rw (a .same-registers, a .same-sketch) (h .each) }) j) j
+
 holds-put : (w : World) (n : ℕ) (p : Place) → ((i : ℕ) → Holds (w i)) → Holds p → (i : ℕ) → Holds (put w n p i)
-holds-put w n p h k i = go (eqb i n)
-  where
-    go : (b : Bool) → Holds (pick b p (w i))
-    go true = k
-    go false = h i
+holds-put w n p h k i = holds-pick (eqb i n) p (w i) (λ e. k) (h i)
 
 holds-step : (w : World) (c : Call) → ((i : ℕ) → Holds (w i)) → (i : ℕ) → Holds (step w c i)
 unfolding step
 holds-step w (start n kind lgk regs aux) h = holds-put w n _ h (holds-start kind lgk regs aux (w n) (h n))
 holds-step w (feed n scratch cs) h = holds-put w n _ h (holds-feed (w n) scratch cs (h n))
 holds-step w (merge n m) h = holds-put w n _ h (holds-merge (w n) (w m) (h n) (h m))
+holds-step w (send n m buf regs aux scratch) h = holds-put w m _ h (holds-send (w n) (w m) buf regs aux scratch (h n) (h m))
 
 holds-after : (w : World) (cs : List Call) → ((i : ℕ) → Holds (w i)) → (i : ℕ) → Holds (after w cs i)
 unfolding after

@@ -60,5 +60,12 @@ pub mod Images
 pub mod Listing
 pub mod Writing
 pub mod WriteOpen
+pub mod Room
+pub mod Sending
+pub mod Standing
+pub mod OpensAs
+pub mod Doubles
+pub mod OpensAlike
+pub mod Named
 pub mod Claims
 pub mod Specimens

@@ -5,17 +5,16 @@ use mathlib.Core.List.{List}
 use Prim.Native.Nat.{ℕ}
 use native.Mathlib.Omega.{arith}
 use lib.Dec.{eqb}
-use lib.ListN.{length, getD, drop, length-drop}
+use lib.ListN.{length, drop, length-drop}
 use lib.Seq.{length-take-le}
 use borrow.Author.Tests.{eqb-true, eq-eqb}
-use Rattle.model.specs.Pick.{pick, Tells}
+use Rattle.model.specs.Pick.{pick}
 use Rattle.model.specs.Packed.{Bytes}
-use Rattle.model.specs.Sketch.{isKind, bytesOf, areaOf, Shaped, Good}
+use Rattle.model.specs.Sketch.{bytesOf, areaOf, Shaped, Good}
 use Rattle.model.specs.Check.{goodOf}
 use Rattle.model.specs.Calls.{Out, out, nothing}
 use Rattle.model.specs.Image.{sketchIn, regsIn, entriesIn, openNo, openOf}
 use Rattle.model.specs.Claims.{OpensGood}
-use Rattle.model.specs.declared.Sketch.{Sketch}
 use Rattle.model.proofs.ByteLists.{bytes-drop, bytes-take}
 use Rattle.model.proofs.Tells.{tells-true}
 use Rattle.model.proofs.Sizes.{sized}
@@ -47,7 +46,7 @@ regs-bytes : (l : List ℕ) → Bytes l → Bytes (regsIn l)
 unfolding regsIn
 regs-bytes l b = bytes-take (bytesOf (sketchIn l .kind) (sketchIn l .«lg_k»)) (drop 40 l) (bytes-drop 40 l b)
 
-open-shaped : (l regs aux scratch : List ℕ) → Opens l regs aux scratch → Shaped (sketchIn l .kind) (sketchIn l .«lg_k») (length (regsIn l))
+pub open-shaped : (l regs aux scratch : List ℕ) → Opens l regs aux scratch → Shaped (sketchIn l .kind) (sketchIn l .«lg_k») (length (regsIn l))
 unfolding sketchIn regsIn
 open-shaped l regs aux scratch o =
     record {
@@ -72,10 +71,13 @@ open-passes l regs aux scratch o =
           (made-fits s (regsIn l) (entriesIn l) (aux-tells l .0 (o .entries four)) (sized (s .«lg_k») (o .sized .0) (o .sized .1)) (length aux) four (o .room));
     })
 
--- so it is in good order
-pub open-good : OpensGood
-open-good l regs aux scratch b e =
+-- so it is in good order, if the register bytes are bytes
+pub open-good-of : (l regs aux scratch : List ℕ) → Bytes (regsIn l) → let o = openOf l regs aux scratch in o .no ≡ 0 → Good (o .sketch) (o .regs) (o .aux)
+open-good-of l regs aux scratch b e =
     let n = sym (open-no l regs aux scratch) ∙ e in
     let o = open-says l regs aux scratch .0 n in
     subst (λ (r : Out). Good (r .sketch) (r .regs) (r .aux)) (sym (opens-to l regs aux scratch n))
-    (lawful (sketchIn l .kind) (o .known) .tells (sketchIn l) (regsIn l) (areaIn l aux) refl (open-shaped l regs aux scratch o) (regs-bytes l b) .0 (open-passes l regs aux scratch o))
+    (lawful (sketchIn l .kind) (o .known) .tells (sketchIn l) (regsIn l) (areaIn l aux) refl (open-shaped l regs aux scratch o) b .0 (open-passes l regs aux scratch o))
+
+pub open-good : OpensGood
+open-good l regs aux scratch b = open-good-of l regs aux scratch (regs-bytes l b)

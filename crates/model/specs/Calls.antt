@@ -1,7 +1,7 @@
 -- What each call but write and open does, for every input: its answer's number, what it returns, and what lent memory then holds.
 -- Scratch is left out: it may hold anything.
 use Prim.Native.Nat.{ℕ, _^_}
-use mathlib.Core.Bool.{Bool, true}
+use mathlib.Core.Bool.{true}
 use mathlib.Core.List.{List, [], _∷_}
 use lib.Dec.{eqb, leb}
 use lib.Ieee.{Float}
@@ -10,11 +10,11 @@ use Rattle.model.specs.Pick.{pick, firstOf}
 use Rattle.model.specs.Coupon.{value, home}
 use Rattle.model.specs.Registers.{raise, joined}
 use Rattle.model.specs.Table.{baseFor}
-use Rattle.model.specs.Steps.{Step, went, Ran, ran}
+use Rattle.model.specs.Steps.{Step, went, ran}
 use Rattle.model.specs.Four.{State, state, step4}
 use Rattle.model.specs.Sketch.{sketchOf, recordOf, stored, areaOf, tableIn, registers}
 use Rattle.model.specs.Check.{shapeNo, scratchFits, checkNo}
-use Rattle.model.specs.Sums.{ratio, kxq0, kxq1}
+use Rattle.model.specs.Sums.{kxq0, kxq1}
 use Rattle.model.specs.declared.Sketch.{Sketch}
 
 -- all that a call gives back which has a sketch: number, record, count, register bytes, exception area
@@ -63,11 +63,15 @@ pub record Unpacked : Type 0 where
   pub no : ℕ
   pub out : List ℕ
 
+-- one, by its parts
+abbrev pub unpackedTo : ℕ → List ℕ → Unpacked
+unpackedTo n l = record { no = n; out = l }
+
 -- unpack: k bytes, one a register
 unfoldable pub unpackOf : Sketch → List ℕ → List ℕ → List ℕ → Unpacked
 unpackOf s regs aux buf =
     let n = checkNo (eqb (length buf) (2 ^ s .«lg_k»)) s regs aux in
-    record { no = n; out = pick (eqb n 0) (registers s regs aux) buf }
+    unpackedTo n (pick (eqb n 0) (registers s regs aux) buf)
 
 -- KIND for a sketch that is not of kind 8, then its checks
 unfoldable pub eightNo : Sketch → List ℕ → ℕ
@@ -94,9 +98,13 @@ pub record Summed : Type 0 where
   pub low : Float
   pub high : Float
 
+-- one, by its parts
+abbrev pub summedTo : ℕ → Float → Float → Summed
+summedTo n x y = record { no = n; low = x; high = y }
+
 -- sums: both, worked out from the registers; +0 where refused
 unfoldable pub sumsOf : Sketch → List ℕ → List ℕ → Summed
 sumsOf s regs aux =
     let n = checkNo true s regs aux in
     let R = pick (eqb n 0) (registers s regs aux) [] in
-    record { no = n; low = kxq0 R; high = kxq1 R }
+    summedTo n (kxq0 R) (kxq1 R)

@@ -1,18 +1,22 @@
--- What is claimed of all this: the three demands, and what an image is worth. proofs/Claims.antt has the proofs.
+-- What is claimed of all this: the three demands, what a call leaves of any sketch in good order, and what an image is worth. proofs/Claims.antt has the proofs.
 use mathlib.Core.Path.{_≡_}
 use mathlib.Core.Logic.{_⊎_}
-use mathlib.Core.Bool.{true}
+use mathlib.Core.Bool.{true, false}
 use mathlib.Core.List.{List, [], List·Memᴰ}
-use Prim.Native.Nat.{ℕ, _+_, _*_, _-_, _^_, _<_, _≤_}
+use Prim.Native.Nat.{ℕ, min, _+_, _*_, _-_, _/_, _%_, _^_, _<_, _≤_}
+use lib.IntN.{pos}
+use lib.Ieee.{Float, fin}
+use lib.Ieee.Exact.{HasValue}
 use lib.ListN.{length, getD, take}
 use Rattle.model.specs.Coupon.{value, slot, home}
-use Rattle.model.specs.Registers.{fed, countOf}
+use Rattle.model.specs.Registers.{fed, joined, countOf}
 use Rattle.model.specs.Packed.{Bytes}
 use Rattle.model.specs.Table.{baseFor, tableSize, Member}
 use Rattle.model.specs.Four.{NoRoom}
 use Rattle.model.specs.Sketch.{bytesOf, cells, registers, Good}
-use Rattle.model.specs.Calls.{Out, out, nothing, startOf, feedOf, unpackOf, viewOf, mergeOf, sumsOf}
-use Rattle.model.specs.Image.{imageIn, wrote, writeOf, sketchIn, regsIn, compactIn, wordCount, entriesIn, openOf}
+use Rattle.model.specs.Sums.{scaled}
+use Rattle.model.specs.Calls.{Out, out, nothing, startOf, feedOf, Unpacked, unpackedTo, unpackOf, viewOf, mergeOf, Summed, summedTo, sumsOf}
+use Rattle.model.specs.Image.{imageIn, Written, wrote, writeOf, sketchIn, regsIn, compactIn, wordCount, entriesIn, openOf}
 use Rattle.model.specs.History.{here, Call, run}
 use Rattle.model.specs.Answers.{numberOf}
 use Rattle.model.specs.declared.Answer.{Answer}
@@ -116,14 +120,77 @@ pub record Unchanged : Type 0 where
   pub write-same : (s : Sketch) (regs aux buf : List ℕ) → let o = writeOf s regs aux buf in (o .no ≡ 0 → ⊥) → o ≡ wrote (o .no) 0 buf
   pub open-same : (l regs aux scratch : List ℕ) → let o = openOf l regs aux scratch in (o .no ≡ 0 → ⊥) → o ≡ out (o .no) nothing 0 regs aux
 
--- two results that meet one call's equation coincide, the answer by name
-abbrev pub Coincide : Type 0
-Coincide = (o : Out) (a b : Answer) (s t : Sketch) (c d : ℕ) (r q x y : List ℕ) → out (numberOf a) s c r x ≡ o → out (numberOf b) t d q y ≡ o → (a ≡ b) × ((s ≡ t) × ((c ≡ d) × ((r ≡ q) × (x ≡ y))))
+-- two results that meet one call's equation coincide, the answer by name: of start, feed, merge and open; of unpack; of view; of sums, whose answer is the number; of write
+pub record Coincide : Type 0 where
+  pub made-same : (o : Out) (a b : Answer) (s t : Sketch) (c d : ℕ) (r q x y : List ℕ) → out (numberOf a) s c r x ≡ o → out (numberOf b) t d q y ≡ o → (a ≡ b) × ((s ≡ t) × ((c ≡ d) × ((r ≡ q) × (x ≡ y))))
+  pub unpacked-same : (o : Unpacked) (a b : Answer) (x y : List ℕ) → unpackedTo (numberOf a) x ≡ o → unpackedTo (numberOf b) y ≡ o → (a ≡ b) × (x ≡ y)
+  pub viewed-same : (s : Sketch) (regs x y : List ℕ) → x ≡ viewOf s regs → y ≡ viewOf s regs → x ≡ y
+  pub summed-same : (o : Summed) (m n : ℕ) (x y u v : Float) → summedTo m x u ≡ o → summedTo n y v ≡ o → (m ≡ n) × ((x ≡ y) × (u ≡ v))
+  pub written-same : (o : Written) (a b : Answer) (m n : ℕ) (x y : List ℕ) → wrote (numberOf a) m x ≡ o → wrote (numberOf b) n y ≡ o → (a ≡ b) × ((m ≡ n) × (x ≡ y))
+
+-- ---- over any sketch in good order, wherever it came from
+-- a sketch of this kind and size is in good order, and R are its registers
+pub record Keeps (kind lgk : ℕ) (R : List ℕ) (s : Sketch) (regs aux : List ℕ) : Type 0 where
+  pub good : Good s regs aux
+  pub same-kind : s .kind ≡ kind
+  pub same-size : s .«lg_k» ≡ lgk
+  pub holds : registers s regs aux ≡ R
+
+-- feed: fed exactly the coupons that were taken, which are all, or those before NO_ROOM, or none where refused
+abbrev pub FeedKeeps : Type 0
+FeedKeeps = (s : Sketch) (regs aux scratch cs : List ℕ) → Good s regs aux → let o = feedOf s regs aux scratch cs in
+    Keeps (s .kind) (s .«lg_k») (fed (2 ^ s .«lg_k») (registers s regs aux) (take (o .count) cs)) (o .sketch) (o .regs) (o .aux)
+
+-- merge: the source's registers joined into those of a kind 8 target that is no finer
+abbrev pub MergeKeeps : Type 0
+MergeKeeps = (t : Sketch) (tregs : List ℕ) (s : Sketch) (sregs saux : List ℕ) → Good t tregs [] → Good s sregs saux → t .kind ≡ 8 → t .«lg_k» ≤ s .«lg_k»
+    → let o = mergeOf t tregs s sregs saux in (o .no ≡ 0) × Keeps 8 (t .«lg_k») (joined (2 ^ t .«lg_k») (registers t tregs []) (registers s sregs saux)) (o .sketch) (o .regs) []
+
+-- an area of two words a register is room for all coupons
+abbrev pub TwiceIsRoom : Type 0
+TwiceIsRoom = (s : Sketch) (regs aux scratch cs : List ℕ) → Bytes regs → 2 * 2 ^ s .«lg_k» ≤ length aux → feedOf s regs aux scratch cs .no ≡ 6 → ⊥
+
+-- sums: each double is exactly a whole number of at most 2 ^ 52 over its power of two; +0 where refused
+pub record ExactSums : Type 0 where
+  pub exact : (s : Sketch) (regs aux : List ℕ) → Good s regs aux → let o = sumsOf s regs aux in let R = registers s regs aux in
+      (o .no ≡ 0) × (HasValue (o .low) false (scaled 0 R) (2 ^ 31) × (HasValue (o .high) false (scaled 32 R) (2 ^ 63) × ((scaled 0 R ≤ 2 ^ 52) × (scaled 32 R ≤ 2 ^ 52))))
+  pub none : (s : Sketch) (regs aux : List ℕ) → let o = sumsOf s regs aux in (o .no ≡ 0 → ⊥) → (o .low ≡ fin false 0 (pos 0)) × (o .high ≡ fin false 0 (pos 0))
 
 -- ---- images
 -- what opens is in good order
 abbrev pub OpensGood : Type 0
 OpensGood = (l regs aux scratch : List ℕ) → Bytes l → let o = openOf l regs aux scratch in o .no ≡ 0 → Good (o .sketch) (o .regs) (o .aux)
+
+-- where an image ends, if its bytes are there
+abbrev pub endOf : List ℕ → ℕ
+endOf l = 40 + bytesOf (sketchIn l .kind) (sketchIn l .«lg_k») + 4 * wordCount l
+
+-- two images agree but for bytes 8 to 31, the flags in byte 5 other than 8, and what stands behind their end
+pub record Alike (l m : List ℕ) : Type 0 where
+  pub same : (i : ℕ) → (i < 8) ⊎ (32 ≤ i) → (i ≡ 5 → ⊥) → i < endOf l → getD l i 0 ≡ getD m i 0
+  pub flag : getD l 5 0 / 8 % 2 ≡ getD m 5 0 / 8 % 2
+  pub long : min (length l) (endOf l) ≡ min (length m) (endOf l)
+
+-- such images open alike, or are refused alike
+abbrev pub OpensAlike : Type 0
+OpensAlike = (l m regs aux scratch : List ℕ) → Bytes l → Bytes m → Alike l m → openOf l regs aux scratch ≡ openOf m regs aux scratch
+
+-- R are the registers of an image: kinds 6 and 8 list them; of kind 4 a nibble below 15 is one above cur_min, a nibble of 15 has an entry, and each entry, in either form and any order, is that
+-- of its slot modulo k
+pub record ReadsAs (l R : List ℕ) : Type 0 where
+  pub long : length R ≡ 2 ^ sketchIn l .«lg_k»
+  pub plain : (sketchIn l .kind ≡ 4 → ⊥) → R ≡ cells (sketchIn l) (regsIn l)
+  pub low : sketchIn l .kind ≡ 4 → (i : ℕ) → i < 2 ^ sketchIn l .«lg_k» → let n = getD (cells (sketchIn l) (regsIn l)) i 0 in n < 15 → getD R i 0 ≡ sketchIn l .«cur_min» + n
+  pub listed : sketchIn l .kind ≡ 4 → (i : ℕ) → i < 2 ^ sketchIn l .«lg_k» → getD (cells (sketchIn l) (regsIn l)) i 0 ≡ 15 → Listed (2 ^ sketchIn l .«lg_k») (entriesIn l) i
+  pub high : sketchIn l .kind ≡ 4 → (w : ℕ) → Member (entriesIn l) w → getD R (home (2 ^ sketchIn l .«lg_k») w) 0 ≡ value w
+
+-- what opens has the header's record, and reads as its image says
+abbrev pub OpensAs : Type 0
+OpensAs = (l regs aux scratch : List ℕ) → let o = openOf l regs aux scratch in o .no ≡ 0 → (o .sketch ≡ sketchIn l) × ReadsAs l (registers (o .sketch) (o .regs) (o .aux))
+
+-- which leaves no choice: an image has no other registers
+abbrev pub ReadsOne : Type 0
+ReadsOne = (l R S : List ℕ) → ReadsAs l R → ReadsAs l S → R ≡ S
 
 -- a call's sketch is the sketch s again, though its exception area may be in another order
 pub record Again (s : Sketch) (regs aux : List ℕ) (o : Out) : Type 0 where

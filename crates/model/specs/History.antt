@@ -1,4 +1,4 @@
--- Histories of starting, feeding and merging sketches, each with its memory to itself, and the coupons that have reached each.
+-- Histories of starting, feeding, merging and sending sketches, each with its memory to itself, and the coupons that have reached each.
 -- A call here is what its contract says: refused calls and stopped batches are part of a history too.
 use mathlib.Core.List.{List, [], _∷_, _++_}
 use Prim.Native.Nat.{ℕ}
@@ -6,6 +6,7 @@ use lib.Dec.{eqb}
 use lib.ListN.{take}
 use Rattle.model.specs.Pick.{pick}
 use Rattle.model.specs.Calls.{Out, startOf, feedOf, mergeOf}
+use Rattle.model.specs.Image.{writeOf, openOf}
 use Rattle.model.specs.declared.Sketch.{Sketch}
 
 -- a numbered place: no sketch yet; or a record, its two lent memories, and the coupons that have reached it
@@ -17,19 +18,21 @@ pub data Place : Type 0 where
 abbrev pub World : Type 0
 World = ℕ → Place
 
--- a call on the sketches by their numbers: start is handed memory with any contents, feed scratch and a batch, merge a target and a source
+-- a call on the sketches by their numbers: start is handed memory with any contents, feed scratch and a batch, merge a target and a source;
+-- send a source, a target, the buffer that the source is written into, and the target's memory and scratch
 pub data Call : Type 0 where
   start : ℕ → ℕ → ℕ → List ℕ → List ℕ → Call
   feed : ℕ → List ℕ → List ℕ → Call
   merge : ℕ → ℕ → Call
+  send : ℕ → ℕ → List ℕ → List ℕ → List ℕ → List ℕ → Call
 
 -- p at number n
 abbrev pub put : World → ℕ → Place → World
 put w n p i = pick (eqb i n) p (w i)
 
--- a refused start makes no sketch and changes no memory
-abbrev pub started : Out → Place → Place
-started o p = pick (eqb (o .no) 0) (here (o .sketch) (o .regs) (o .aux) []) p
+-- a call that makes a sketch, which these coupons have reached; a refused one makes none and changes no memory
+abbrev pub makes : Out → List ℕ → Place → Place
+makes o got p = pick (eqb (o .no) 0) (here (o .sketch) (o .regs) (o .aux) got) p
 
 -- the first `count` coupons of the batch have reached the sketch
 unfoldable pub feeds : Place → List ℕ → List ℕ → Place
@@ -46,11 +49,19 @@ merges (here t tregs taux got) (here s sregs saux more) =
     let o = mergeOf t tregs s sregs saux in
     here (o .sketch) (o .regs) taux (pick (eqb (o .no) 0) (got ++ more) got)
 
+-- the source is written, and its image opened in other memory: all that has reached the source has reached what then stands there, unless either is refused
+unfoldable pub sends : Place → Place → List ℕ → List ℕ → List ℕ → List ℕ → Place
+sends none q buf regs aux scratch = q
+sends (here s sregs saux got) q buf regs aux scratch =
+    let w = writeOf s sregs saux buf in
+    pick (eqb (w .no) 0) (makes (openOf (w .out) regs aux scratch) got q) q
+
 -- one call
 unfoldable pub step : World → Call → World
-step w (start n kind lgk regs aux) = put w n (started (startOf kind lgk regs aux) (w n))
+step w (start n kind lgk regs aux) = put w n (makes (startOf kind lgk regs aux) [] (w n))
 step w (feed n scratch cs) = put w n (feeds (w n) scratch cs)
 step w (merge n m) = put w n (merges (w n) (w m))
+step w (send n m buf regs aux scratch) = put w m (sends (w n) (w m) buf regs aux scratch)
 
 -- calls one after the other
 unfoldable pub after : World → List Call → World

@@ -13,7 +13,7 @@ use Rattle.model.specs.Steps.{Ran, ran}
 use Rattle.model.specs.Four.{State, state}
 use Rattle.model.specs.Sketch.{sketchOf, areaOf, registers, tableIn}
 use Rattle.model.specs.Check.{goodOf, shapeNo, scratchFits, checkNo}
-use Rattle.model.specs.Calls.{Out, out, keptOut, startOf, stateOf, stepOf, feedOf, unpackOf, eightNo}
+use Rattle.model.specs.Calls.{Out, out, keptOut, startOf, stateOf, stepOf, feedOf, unpackedTo, unpackOf, eightNo}
 use Rattle.model.specs.declared.Sketch.{Sketch}
 use Rattle.model.proofs.Ladder.{shape-says, check-says, first-one}
 use Rattle.model.proofs.Plain.{plain-cells}
@@ -21,7 +21,7 @@ use Rattle.model.proofs.Starting.{record-zeros, stored-zeros, plain-ran}
 use Rattle.model.proofs.Kept.{check-ok, feed-line}
 use Rattle.checks.proofs.Rungs.{rung-ok}
 use Rattle.sketch.specs.Asked.{Plain}
-use Rattle.sketch.specs.Given.{Kept, unpacked}
+use Rattle.sketch.specs.Given.{Kept}
 
 -- ---- start
 module _ (kind lgk : ℕ) (regs aux : List ℕ) where
@@ -99,10 +99,10 @@ module _ (s : Sketch) (regs aux scratch : List ℕ) {fits : Bool} (lent : fits �
 
 -- ---- unpack
 module _ (s : Sketch) (regs aux buf : List ℕ) {fits : Bool} (lent : fits ≡ eqb (length buf) (2 ^ s .«lg_k»)) where
-  pub unpack-no : {n : ℕ} → n ≡ checkNo fits s regs aux → (n ≡ 0 → ⊥) → unpacked n buf ≡ unpackOf s regs aux buf
+  pub unpack-no : {n : ℕ} → n ≡ checkNo fits s regs aux → (n ≡ 0 → ⊥) → unpackedTo n buf ≡ unpackOf s regs aux buf
   unfolding unpackOf
   unpack-no {n} e h = rw (← lent, ← e, ne-eqb n 0 h)
 
-  pub unpack-ok : {after : List ℕ} → checkNo fits s regs aux ≡ 0 → after ≡ registers s regs aux → unpacked 0 after ≡ unpackOf s regs aux buf
+  pub unpack-ok : {after : List ℕ} → checkNo fits s regs aux ≡ 0 → after ≡ registers s regs aux → unpackedTo 0 after ≡ unpackOf s regs aux buf
   unfolding unpackOf
   unpack-ok e q = rw (← lent, e, q)

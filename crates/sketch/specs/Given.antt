@@ -3,14 +3,9 @@ use mathlib.Core.Path.{_≡_}
 use mathlib.Core.List.{List}
 use Prim.Native.Nat.{ℕ}
 use Rattle.model.specs.Sketch.{recordOf, stored}
-use Rattle.model.specs.Calls.{Unpacked}
 use Rattle.model.specs.declared.Sketch.{Sketch}
 
 -- record and bytes are what is kept of the registers R
 pub record Kept (kind lgk : ℕ) (R : List ℕ) (s : Sketch) (regs : List ℕ) : Type 0 where
   pub record-is : s ≡ recordOf kind lgk R
   pub bytes-are : regs ≡ stored kind lgk R
-
--- what unpack gives back, by its parts
-abbrev pub unpacked : ℕ → List ℕ → Unpacked
-unpacked n l = record { no = n; out = l }

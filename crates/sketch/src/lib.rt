@@ -13,9 +13,9 @@ ghost use Rattle.model.specs.Answers.{numberOf};
 ghost use Rattle.model.specs.Pick.{pick};
 ghost use Rattle.model.specs.Registers.{fed, joined};
 ghost use Rattle.model.specs.Sketch.{sketchOf, areaOf, registers};
-ghost use Rattle.model.specs.Calls.{out, startOf, feedOf, unpackOf, eightNo, viewOf, mergeOf};
+ghost use Rattle.model.specs.Calls.{out, startOf, feedOf, unpackedTo, unpackOf, eightNo, viewOf, mergeOf};
 ghost use Rattle.sketch.specs.Asked.{Plain, Unpackable, Joinable};
-ghost use Rattle.sketch.specs.Given.{Kept, unpacked};
+ghost use Rattle.sketch.specs.Given.{Kept};
 
 pub struct Made {
     pub answer: Answer,
@@ -192,7 +192,7 @@ fn unpack_good(s: Sketch, regs: &[u8], aux: &[u32], out: &mut [u8])
 }
 
 pub fn unpack(sketch: Sketch, regs: &[u8], aux: &[u32], out: &mut [u8]) -> Answer
-    ensures { λ r. ⌜ unpacked (numberOf r) (now (out .exit)) ≡ unpackOf sketch (now (regs .entry)) (now (aux .entry)) (now (out .entry)) ⌝ }
+    ensures { λ r. ⌜ unpackedTo (numberOf r) (now (out .exit)) ≡ unpackOf sketch (now (regs .entry)) (now (aux .entry)) (now (out .entry)) ⌝ }
 {
     let fits = is_count(out.len(), sketch.lg_k);
     let answer = checks::check(fits, sketch, regs, aux);

@@ -16,7 +16,7 @@ use Rattle.model.specs.declared.Sketch.{Sketch}
 use Rattle.model.proofs.Plain.{bytes-8}
 use Rattle.model.proofs.Kept.{registers-long}
 use Rattle.sums.specs.Tally.{Counted, FewCounted, Registers, sumsFor}
-use Rattle.sums.proofs.Dyadic.{ratio-zero}
+use Rattle.model.proofs.Doubles.{ratio-zero}
 use Rattle.checks.proofs.ByKind.{eight-long}
 
 module _ (s : Sketch) (regs aux : List ℕ) where

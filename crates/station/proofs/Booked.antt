@@ -16,7 +16,7 @@ use Rattle.model.specs.Sketch.{sketchOf, isKind, bytesOf, lowOf, recordOf, stor
 use Rattle.model.specs.Check.{countsFit, valuesFit, spareFits, tallyFits, wordFits, tableFits, goodOf, lgkNo, sizeNo, shapeNo, scratchFits, checkNo}
 use Rattle.model.specs.Sums.{share, scaled, ratio}
 use Rattle.model.specs.Calls.{Out, out, keptOut, startOf, stateOf, stepOf, feedOf, eightNo, mergeNo, mergeOf, Summed, sumsOf}
-use Rattle.model.specs.Image.{header, imageOf, imageIn, wrote, writeNo, writeOf, kindOf, sketchIn, regsIn, compactIn, wordCount, entriesIn, noneTwice, auxFits, openNo, openOf}
+use Rattle.model.specs.Image.{header, imageOf, imageIn, wrote, writeNo, writeOf}
 use Rattle.model.specs.declared.Sketch.{Sketch}
 use Rattle.station.specs.declared.Totals.{Totals}
 use Rattle.station.specs.Tour.{three-at-five, zero-at-fifteen, eight, four, joined, totals, flat}
@@ -55,8 +55,7 @@ pub record Booked : Type 0 where
   pub high : T (not (isNan (sums .high)))
   pub bits : totalsFrom sums ≡ totals
   pub writes : writeOf (four .sketch) (four .regs) (four .aux) (replicate 52 3) ≡ wrote 0 52 (flat .bytes)
-  pub opens : openOf (flat .bytes) (replicate 8 7) (replicate 8 9) (replicate 8 5) ≡ out 0 (four .sketch) 0 (four .regs) (four .aux)
 
 pub booked : Booked
-unfolding all firstOf first raise poured least countOf above number digits slotAt unpacked packed baseFor sizeFor tableSize walk stepsFrom placeFrom place wordAt used insert refill grown add adds keeps laid ran storedAt valuesFrom registers4 risen climbed settled added put4 step4 isKind bytesOf lowOf recordOf stored areaOf cells tableIn registers countsFit valuesFit spareFits tallyFits wordFits tableFits goodOf lgkNo sizeNo shapeNo scratchFits checkNo share scaled ratio round isNan toBits keptOut startOf stateOf stepOf feedOf eightNo mergeNo mergeOf sumsOf header imageOf imageIn writeNo writeOf kindOf sketchIn regsIn compactIn wordCount entriesIn noneTwice auxFits openNo openOf
-booked = record { starts-8 = refl; feeds-8 = refl; starts-4 = refl; feeds-4 = refl; merges = refl; refuses = refl; low = tt; high = tt; bits = refl; writes = refl; opens = refl }
+unfolding all firstOf first raise poured least countOf above number digits slotAt unpacked packed baseFor sizeFor tableSize walk stepsFrom placeFrom place wordAt used insert refill grown add adds keeps laid ran storedAt valuesFrom registers4 risen climbed settled added put4 step4 isKind bytesOf lowOf recordOf stored areaOf cells tableIn registers countsFit valuesFit spareFits tallyFits wordFits tableFits goodOf lgkNo sizeNo shapeNo scratchFits checkNo share scaled ratio round isNan toBits keptOut startOf stateOf stepOf feedOf eightNo mergeNo mergeOf sumsOf header imageOf imageIn writeNo writeOf
+booked = record { starts-8 = refl; feeds-8 = refl; starts-4 = refl; feeds-4 = refl; merges = refl; refuses = refl; low = tt; high = tt; bits = refl; writes = refl }

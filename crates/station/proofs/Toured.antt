@@ -7,7 +7,7 @@ use lib.Dec.{T}
 use lib.Ieee.{isNan, binary64, toBits}
 use lib.ListN.{replicate}
 use Rattle.model.specs.Calls.{Out, out, feedOf, mergeOf, Summed, sumsOf}
-use Rattle.model.specs.Image.{Written, wrote, writeOf, openOf}
+use Rattle.model.specs.Image.{Written, wrote, writeOf}
 use Rattle.model.specs.declared.Sketch.{Sketch}
 use Rattle.sums.specs.declared.Sums.{Sums}
 use Rattle.sums.specs.Tally.{summed}
@@ -17,8 +17,7 @@ use Rattle.station.specs.declared.Joined.{Joined}
 use Rattle.station.specs.declared.Refused.{Refused}
 use Rattle.station.specs.declared.Totals.{Totals}
 use Rattle.station.specs.declared.Flat.{Flat}
-use Rattle.station.specs.declared.Opened.{Opened}
-use Rattle.station.specs.Tour.{three-at-five, zero-at-fifteen, eight, four, joined, refused, totals, flat, opened}
+use Rattle.station.specs.Tour.{three-at-five, zero-at-fifteen, eight, four, joined, refused, totals, flat}
 use Rattle.station.proofs.Booked.{fedTo, start8, start4, odd, sums, totalsFrom, booked}
 
 -- ---- which part of an answer each field is
@@ -36,9 +35,6 @@ refusedFrom o = record { answer = o .no; taken = o .count; regs = o .regs }
 
 abbrev flatFrom : Written → Flat
 flatFrom w = record { answer = w .no; len = w .len; bytes = w .out }
-
-abbrev openedFrom : Out → Opened
-openedFrom o = record { answer = o .no; sketch = o .sketch; regs = o .regs; aux = o .aux }
 
 -- ---- start, then feed
 module _ {n m x y k : ℕ} {s t : Sketch} {regs aux regs′ aux′ : List ℕ} where
@@ -78,9 +74,6 @@ module _ {j : Joined} {s : Sums} (p : j ≡ joined) (e : summed s ≡ sumsOf (j 
   pub totalled : _≡_ {A = Totals} (record { answer = s .answer; low = toBits binary64 (s .kxq0); high = toBits binary64 (s .kxq1) }) totals
   totalled = ap totalsFrom is-booked ∙ booked .bits
 
--- ---- write and open
+-- ---- write
 pub flats : {n x len : ℕ} {bytes : List ℕ} {f : Four} → f ≡ four → n ≡ x → wrote x len bytes ≡ writeOf (f .sketch) (f .regs) (f .aux) (replicate 52 3) → _≡_ {A = Flat} (record { answer = n; len = len; bytes = bytes }) flat
 flats p r w = rw r (ap flatFrom (w ∙ ap (λ (z : Four). writeOf (z .sketch) (z .regs) (z .aux) (replicate 52 3)) p ∙ booked .writes))
-
-pub openings : {n x : ℕ} {s : Sketch} {regs aux : List ℕ} {i : Flat} → i ≡ flat → n ≡ x → out x s 0 regs aux ≡ openOf (i .bytes) (replicate 8 7) (replicate 8 9) (replicate 8 5) → _≡_ {A = Opened} (record { answer = n; sketch = s; regs = regs; aux = aux }) opened
-openings p r o = rw r (ap openedFrom (o ∙ ap (λ (z : Flat). openOf (z .bytes) (replicate 8 7) (replicate 8 9) (replicate 8 5)) p ∙ booked .opens))

@@ -9,7 +9,6 @@ use Rattle.station.specs.declared.Joined.{Joined}
 use Rattle.station.specs.declared.Refused.{Refused}
 use Rattle.station.specs.declared.Totals.{Totals}
 use Rattle.station.specs.declared.Flat.{Flat}
-use Rattle.station.specs.declared.Opened.{Opened}
 
 -- the two coupons
 abbrev pub three-at-five : ℕ
@@ -52,7 +51,3 @@ flat = record {
       ∷ 15 ∷ 0 ∷ 0 ∷ 0 ∷ 0 ∷ 0 ∷ 0 ∷ 0
       ∷ 0 ∷ 0 ∷ 0 ∷ 60 ∷ [];
 }
-
--- opened again it is the sketch that was written
-abbrev pub opened : Opened
-opened = record { answer = 0; sketch = four .sketch; regs = four .regs; aux = four .aux }

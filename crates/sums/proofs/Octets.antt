@@ -11,7 +11,8 @@ use lib.Ieee.Bits.{toBits-lt}
 use Rattle.model.specs.Packed.{number, digits, packed}
 use Rattle.model.specs.Sums.{ratio, scaled, kxq0, kxq1}
 use Rattle.model.proofs.Digits.{pow-mul, digits-append, digits-low}
-use Rattle.sums.proofs.Dyadic.{ratio-zero, ratio-fits}
+use Rattle.model.proofs.Doubles.{ratio-zero}
+use Rattle.sums.proofs.Dyadic.{ratio-fits}
 
 pub packed-cons : (b n v : ℕ) (vs : List ℕ) → v < 256 ^ b → packed (8 * b) (b + n) (v ∷ vs) ≡ digits 256 b v ++ packed (8 * b) n vs
 unfolding packed number

@@ -1,5 +1,5 @@
 -- `merge_job::file_no` meets its contract: one rung of the ladder after the other. Assumes nothing.
-use mathlib.Core.Path.{_≡_, sym, _∙_}
+use mathlib.Core.Path.{sym, _∙_}
 use borrow.Author.Tests.{not-true, not-false}
 use Rattle.judge.proofs.Passing.{front-long}
 use Rattle.merge_job.proofs.Filed.{file-long, file-front, file-mode, file-low, file-high, file-large, file-fits}

@@ -1,9 +1,9 @@
--- `merge_job::finish` meets its contract. Assumes nothing.
-use mathlib.Core.Path.{_≡_, sym}
+-- `merge_job::finish` meets its contract: what is handed to the writer is the image of all, and the job's path. Assumes nothing.
+use mathlib.Core.Path.{sym}
 use mathlib.Core.Bool.{true, false}
 use native.Mathlib.Omega.{arith}
 use lib.Seq.{length-take-le}
-use Rattle.merge_job.proofs.Ends.{out-room, written, tellable}
+use Rattle.merge_job.proofs.Ends.{out-room, written, tellable, puts}
 use borrow.Author.Needs.{needs}
 use Rattle.merge_job.proofs.finish.Statement.{statement}
 use Rattle.merge_job.proofs.finish.Tie as tie
@@ -24,28 +24,28 @@ path-in-requires : tie.Need-path-in-requires
 path-in-requires c κs = search needs
 
 add-from : tie.Need-add-from
-add-from c = omega (arith, out-room (c .before .before .before .before .before .before .before .before .before .args .job .now) (c .before .before .before .before .before .before .before .before .before .args .places .last) _ (c .before .before .before .before .before .before .before .before .before .pre .1) (c .before .path-in .ensures))
+add-from c = let m = c .before .before .before .before .before .before .before .before .before in omega (arith, out-room (m .args .job .now) _ _ (m .pre .0) (m .args .places) (m .pre .1) _ (c .before .path-in .ensures))
 
 add-end : tie.Need-add-end
-add-end c = omega (arith, out-room (c .before .before .before .before .before .before .before .before .before .args .job .now) (c .before .before .before .before .before .before .before .before .before .args .places .last) _ (c .before .before .before .before .before .before .before .before .before .pre .1) (c .before .path-in .ensures))
+add-end c = let m = c .before .before .before .before .before .before .before .before .before in omega (arith, out-room (m .args .job .now) _ _ (m .pre .0) (m .args .places) (m .pre .1) _ (c .before .path-in .ensures))
 
-sub-replace : tie.Need-sub-replace
-sub-replace c = search needs
+sub-put : tie.Need-sub-put
+sub-put c = search needs
 
-part-replace-start : tie.Need-part-replace-start
-part-replace-start c = search needs
+part-put-start : tie.Need-part-put-start
+part-put-start c = search needs
 
-part-replace-end : tie.Need-part-replace-end
-part-replace-end c = omega (arith, out-room (c .before .before .before .before .before .before .before .before .before .args .job .now) (c .before .before .before .before .before .before .before .before .before .args .places .last) _ (c .before .before .before .before .before .before .before .before .before .pre .1) (c .before .path-in .ensures))
+part-put-end : tie.Need-part-put-end
+part-put-end c = let m = c .before .before .before .before .before .before .before .before .before in omega (arith, out-room (m .args .job .now) _ _ (m .pre .0) (m .args .places) (m .pre .1) _ (c .before .path-in .ensures))
 
 array-share-prefix-image : tie.Need-array-share-prefix-image
-array-share-prefix-image c = let w = written (c .before .before .before .before .before .before .before .before .before .before .args .sketch) (c .before .before .before .before .before .before .before .before .before .before .args .regs .now) (c .before .before .before .before .before .before .before .before .before .before .pre .0) _ _ (c .before .before .before .before .before .write .ensures) (search needs) in omega arith
+array-share-prefix-image c = let w = written _ _ _ (c .before .before .before .before .before .before .before .before .before .before .pre .0) _ _ (c .before .before .before .before .before .write .ensures) (search needs) .1 in omega arith
 
-slice-aggregate-replace : tie.Need-slice-aggregate-replace
-slice-aggregate-replace c = let w = written (c .before .before .before .before .before .before .before .before .before .before .before .args .sketch) (c .before .before .before .before .before .before .before .before .before .before .before .args .regs .now) (c .before .before .before .before .before .before .before .before .before .before .before .pre .0) _ _ (c .before .before .before .before .before .before .write .ensures) (search needs) in sym (length-take-le _ _ (omega arith))
+slice-aggregate-put : tie.Need-slice-aggregate-put
+slice-aggregate-put c = let w = written _ _ _ (c .before .before .before .before .before .before .before .before .before .before .before .pre .0) _ _ (c .before .before .before .before .before .before .write .ensures) (search needs) in sym (length-take-le _ _ (omega arith))
 
-replace-requires : tie.Need-replace-requires
-replace-requires c κs = search needs
+put-requires : tie.Need-put-requires
+put-requires c κs = let m = c .before .before .before .before .before .before .before .before .before .before .before in puts (m .args .job .now) _ _ (m .pre .0) (m .args .places) (m .pre .1) _ (c .before .before .before .path-in .ensures) _ (written _ _ _ (m .pre .0) _ _ (c .before .before .before .before .before .before .write .ensures) (search needs) .0)
 
 refused-requires : tie.Need-refused-requires
 refused-requires c κs = search needs
@@ -54,7 +54,7 @@ returns : tie.Need-returns
 returns c = (false, c .refused .ensures)
 
 merged-requires : tie.Need-merged-requires
-merged-requires c κs = tellable (c .before .before .before .before .before .before .before .before .before .before .before .before .before .before .args .sketch) (c .before .before .before .before .before .before .before .before .before .before .before .before .before .before .args .regs .now) (c .before .before .before .before .before .before .before .before .before .before .before .before .before .before .pre .0) (λ i. c .before .before .before .before .before .before .before .before .before .before .before .before .before .shared-slice-known .given i .fits)
+merged-requires c κs = tellable _ _ _ (c .before .before .before .before .before .before .before .before .before .before .before .before .before .before .pre .0) (λ i. c .before .before .before .before .before .before .before .before .before .before .before .before .before .shared-slice-known .given i .fits)
 
 returns-2 : tie.Need-returns-2
 returns-2 c = (true, c .merged .ensures)
@@ -70,12 +70,12 @@ finish-spec =
     path-in-requires
     add-from
     add-end
-    sub-replace
-    part-replace-start
-    part-replace-end
+    sub-put
+    part-put-start
+    part-put-end
     array-share-prefix-image
-    slice-aggregate-replace
-    replace-requires
+    slice-aggregate-put
+    put-requires
     refused-requires
     returns
     merged-requires

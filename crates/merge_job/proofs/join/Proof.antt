@@ -1,5 +1,5 @@
 -- `merge_job::join` meets its contract. Assumes nothing.
-use mathlib.Core.Path.{_≡_, sym, _∙_}
+use mathlib.Core.Path.{sym, _∙_}
 use Rattle.merge_job.proofs.Joining.{join-refused, join-merged}
 use borrow.Author.Needs.{needs}
 use Rattle.merge_job.proofs.join.Statement.{statement}

@@ -1,23 +1,22 @@
--- `merge_job::merge_all` meets its contract: each turn finds a line, and what was read so far was merged. Assumes nothing.
+-- `merge_job::merge_all` meets its contract: each turn finds the line of its image, and what was read so far was merged. Assumes nothing.
 use mathlib.Core.Path.{_≡_}
-use Prim.Native.Nat.{_+_, _-_, _≤_}
+use Prim.Native.Nat.{_-_, _≤_}
 use native.Mathlib.Omega.{arith}
 use lib.ListN.{length}
 use borrow.Author.Needs.{needs}
-use Rattle.job.proofs.Walk.{left}
-use Rattle.merge_job.proofs.Turns.{within, one-less, few, SoFar, none-yet, refused, passed, ended}
+use Rattle.merge_job.proofs.Turns.{within, named, one-less, ToCome, SoFar, none-yet, refused, passed, ended}
 use Rattle.merge_job.proofs.merge_all.Statement.{statement}
 use Rattle.merge_job.proofs.merge_all.Tie as tie
 
 abbrev Inv-loop : tie.InvT-loop
-Inv-loop tregs₀ job first files sketch₀ at₀ done₀ t13 tregs sketch at done =
-    (done ≤ files) × (length tregs ≡ length tregs₀) × (done + left job (64 - done) at ≡ files) × SoFar sketch₀ tregs₀ done sketch tregs
+Inv-loop tregs₀ job first files image₀ sketch₀ at₀ done₀ t14 tregs image sketch at done =
+    (done ≤ files) × (length tregs ≡ length tregs₀) × ToCome job done at × SoFar sketch₀ tregs₀ done sketch tregs
 
 abbrev μ-loop : tie.MeasureT-loop
-μ-loop tregs₀ job first files sketch₀ at₀ done₀ t13 tregs sketch at done = files - done
+μ-loop tregs₀ job first files image₀ sketch₀ at₀ done₀ t14 tregs image sketch at done = files - done
 
 loop-holds : tie.Need-loop-holds Inv-loop μ-loop
-loop-holds c = (search needs, search needs, search needs, none-yet _ _)
+loop-holds c = (search needs, search needs, c .before .before .pre .ins-are, none-yet _ _)
 
 slice-aggregate-path-in : tie.Need-slice-aggregate-path-in Inv-loop μ-loop
 slice-aggregate-path-in c = search needs
@@ -26,10 +25,10 @@ path-in-requires : tie.Need-path-in-requires Inv-loop μ-loop
 path-in-requires c κs = search needs
 
 add-from : tie.Need-add-from Inv-loop μ-loop
-add-from c = omega (arith, within (c .before .before .before .before .before .before .args .job .now) (c .before .before .before .before .before .before .args .files) (few (c .before .before .before .before .before .before .args .job .now) (c .before .before .before .before .before .before .args .first) (c .before .before .before .before .before .before .args .files) (c .before .before .before .before .before .before .pre)) (c .before .before .before .loop .at) (c .before .before .before .loop .done) _ (c .before .before .loop-test .taken) (c .before .before .before .loop .inv .2) (c .path-in .ensures))
+add-from c = let m = c .before .before .before .before .before .before in let t = c .before .before .before .loop in omega (arith, within (m .args .job .now) _ _ (m .pre) (t .at) (t .done) _ (c .before .before .loop-test .taken) (t .inv .2) (c .path-in .ensures))
 
 add-end : tie.Need-add-end Inv-loop μ-loop
-add-end c = omega (arith, within (c .before .before .before .before .before .before .args .job .now) (c .before .before .before .before .before .before .args .files) (few (c .before .before .before .before .before .before .args .job .now) (c .before .before .before .before .before .before .args .first) (c .before .before .before .before .before .before .args .files) (c .before .before .before .before .before .before .pre)) (c .before .before .before .loop .at) (c .before .before .before .loop .done) _ (c .before .before .loop-test .taken) (c .before .before .before .loop .inv .2) (c .path-in .ensures))
+add-end c = let m = c .before .before .before .before .before .before in let t = c .before .before .before .loop in omega (arith, within (m .args .job .now) _ _ (m .pre) (t .at) (t .done) _ (c .before .before .loop-test .taken) (t .inv .2) (c .path-in .ensures))
 
 sub-take-file : tie.Need-sub-take-file Inv-loop μ-loop
 sub-take-file c = omega arith
@@ -38,22 +37,22 @@ part-take-file-start : tie.Need-part-take-file-start Inv-loop μ-loop
 part-take-file-start c = omega arith
 
 part-take-file-end : tie.Need-part-take-file-end Inv-loop μ-loop
-part-take-file-end c = omega (arith, within (c .before .before .before .before .before .before .before .args .job .now) (c .before .before .before .before .before .before .before .args .files) (few (c .before .before .before .before .before .before .before .args .job .now) (c .before .before .before .before .before .before .before .args .first) (c .before .before .before .before .before .before .before .args .files) (c .before .before .before .before .before .before .before .pre)) (c .before .before .before .before .loop .at) (c .before .before .before .before .loop .done) _ (c .before .before .before .loop-test .taken) (c .before .before .before .before .loop .inv .2) (c .before .path-in .ensures))
+part-take-file-end c = let m = c .before .before .before .before .before .before .before in let t = c .before .before .before .before .loop in omega (arith, within (m .args .job .now) _ _ (m .pre) (t .at) (t .done) _ (c .before .before .before .loop-test .taken) (t .inv .2) (c .before .path-in .ensures))
 
 take-file-requires : tie.Need-take-file-requires Inv-loop μ-loop
-take-file-requires c κs = search needs
+take-file-requires c κs = let m = c .before .before .before .before .before .before .before .before .before in let t = c .before .before .before .before .before .before .loop in named (m .args .job .now) _ _ (m .pre) (t .at) (t .done) _ (c .before .before .before .before .before .loop-test .taken) (t .inv .2) (c .before .before .before .path-in .ensures)
 
-add-t23 : tie.Need-add-t23 Inv-loop μ-loop
-add-t23 c = search needs
+add-t25 : tie.Need-add-t25 Inv-loop μ-loop
+add-t25 c = search needs
 
 same-length : tie.Need-same-length Inv-loop μ-loop
 same-length c = search needs
 
 returns : tie.Need-returns Inv-loop μ-loop
-returns c = refused (c .before .before .before .before .before .before .before .before .before .before .before .before .before .before .args .target) (c .before .before .before .before .before .before .before .before .before .before .before .before .before .before .args .tregs .now) (c .before .before .before .before .before .before .before .before .before .before .before .loop .done) (c .before .before .before .before .before .before .before .before .before .before .before .loop .sketch) (c .before .before .before .before .before .before .before .before .before .before .before .loop .tregs) (c .before .before .before .before .before .before .before .before .before .before .before .loop .inv .3) _ _ _ (c .before .before .before .before .before .take-file .ensures) _ (c .before .before .before .before .before .before .before .before .before .before .loop-test .taken) (c .if1 .taken)
+returns c = let m = c .before .before .before .before .before .before .before .before .before .before .before .before .before .before .before in let t = c .before .before .before .before .before .before .before .before .before .before .before .before .loop in refused (m .args .target) (m .args .tregs .now) (t .done) (t .sketch) (t .tregs) (t .inv .3) _ _ _ _ (c .before .before .before .before .before .take-file .ensures) _ (c .before .before .before .before .before .before .before .before .before .before .before .loop-test .taken) (c .if1 .taken)
 
 add-at : tie.Need-add-at Inv-loop μ-loop
-add-at c = omega (arith, within (c .before .before .before .before .before .before .before .before .before .before .before .before .before .before .args .job .now) (c .before .before .before .before .before .before .before .before .before .before .before .before .before .before .args .files) (few (c .before .before .before .before .before .before .before .before .before .before .before .before .before .before .args .job .now) (c .before .before .before .before .before .before .before .before .before .before .before .before .before .before .args .first) (c .before .before .before .before .before .before .before .before .before .before .before .before .before .before .args .files) (c .before .before .before .before .before .before .before .before .before .before .before .before .before .before .pre)) (c .before .before .before .before .before .before .before .before .before .before .before .loop .at) (c .before .before .before .before .before .before .before .before .before .before .before .loop .done) _ (c .before .before .before .before .before .before .before .before .before .before .loop-test .taken) (c .before .before .before .before .before .before .before .before .before .before .before .loop .inv .2) (c .before .before .before .before .before .before .before .before .path-in .ensures))
+add-at c = let m = c .before .before .before .before .before .before .before .before .before .before .before .before .before .before .before in let t = c .before .before .before .before .before .before .before .before .before .before .before .before .loop in omega (arith, within (m .args .job .now) _ _ (m .pre) (t .at) (t .done) _ (c .before .before .before .before .before .before .before .before .before .before .before .loop-test .taken) (t .inv .2) (c .before .before .before .before .before .before .before .before .before .path-in .ensures))
 
 add-done : tie.Need-add-done Inv-loop μ-loop
 add-done c = search needs
@@ -62,7 +61,14 @@ loop-less : tie.Need-loop-less Inv-loop μ-loop
 loop-less c = search needs
 
 loop-again : tie.Need-loop-again Inv-loop μ-loop
-loop-again c = (omega arith, search needs, one-less (c .before .before .before .before .before .before .before .before .before .before .before .before .before .before .args .job .now) (c .before .before .before .before .before .before .before .before .before .before .before .before .before .before .args .files) (few (c .before .before .before .before .before .before .before .before .before .before .before .before .before .before .args .job .now) (c .before .before .before .before .before .before .before .before .before .before .before .before .before .before .args .first) (c .before .before .before .before .before .before .before .before .before .before .before .before .before .before .args .files) (c .before .before .before .before .before .before .before .before .before .before .before .before .before .before .pre)) (c .before .before .before .before .before .before .before .before .before .before .before .loop .at) (c .before .before .before .before .before .before .before .before .before .before .before .loop .done) _ (c .before .before .before .before .before .before .before .before .before .before .loop-test .taken) (c .before .before .before .before .before .before .before .before .before .before .before .loop .inv .2) (c .before .before .before .before .before .before .before .before .path-in .ensures), passed (c .before .before .before .before .before .before .before .before .before .before .before .before .before .before .args .target) (c .before .before .before .before .before .before .before .before .before .before .before .before .before .before .args .tregs .now) (c .before .before .before .before .before .before .before .before .before .before .before .loop .done) (c .before .before .before .before .before .before .before .before .before .before .before .loop .sketch) (c .before .before .before .before .before .before .before .before .before .before .before .loop .tregs) (c .before .before .before .before .before .before .before .before .before .before .before .loop .inv .3) _ _ _ (c .before .before .before .before .before .take-file .ensures) (c .if1 .left))
+loop-again c =
+    let m = c .before .before .before .before .before .before .before .before .before .before .before .before .before .before .before in
+    let t = c .before .before .before .before .before .before .before .before .before .before .before .before .loop in (
+      omega arith,
+      search needs,
+      one-less (m .args .job .now) _ _ (m .pre) (t .at) (t .done) _ (c .before .before .before .before .before .before .before .before .before .before .before .loop-test .taken) (t .inv .2) (c .before .before .before .before .before .before .before .before .before .path-in .ensures),
+      passed (m .args .target) (m .args .tregs .now) (t .done) (t .sketch) (t .tregs) (t .inv .3) _ _ _ _ (c .before .before .before .before .before .take-file .ensures) (c .if1 .left),
+    )
 
 same-length-2 : tie.Need-same-length-2 Inv-loop μ-loop
 same-length-2 c = search needs
@@ -85,7 +91,7 @@ merge-all-spec =
     part-take-file-start
     part-take-file-end
     take-file-requires
-    add-t23
+    add-t25
     same-length
     returns
     add-at

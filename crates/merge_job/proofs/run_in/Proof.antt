@@ -1,6 +1,5 @@
--- `merge_job::run_in` meets its contract: the target stays one, so what is written is. Assumes nothing.
-use Rattle.job.proofs.Parsed.{places-say}
-use Rattle.merge_job.proofs.Ends.{target, all-small, refused-reported, merged-reported}
+-- `merge_job::run_in` meets its contract: all files merged is what is written. Assumes nothing.
+use Rattle.merge_job.proofs.Ends.{lists, all-whole, refused-reported, merged-reported}
 use borrow.Author.Needs.{needs}
 use Rattle.merge_job.proofs.run_in.Statement.{statement}
 use Rattle.merge_job.proofs.run_in.Tie as tie
@@ -12,7 +11,7 @@ start-requires : tie.Need-start-requires
 start-requires c κs = search needs
 
 merge-all-requires : tie.Need-merge-all-requires
-merge-all-requires c κs = places-say (c .before .before .before .before .before .before .before .before .before .before .args .job .now) (c .before .before .before .before .before .before .before .before .before .before .args .places) (c .before .before .before .before .before .before .before .before .before .before .pre .is) (c .before .before .before .before .before .before .before .before .before .before .pre .some) .lists
+merge-all-requires c κs = let m = c .before .before .before .before .before .before .before .before .before .before in lists (m .args .job .now) (m .args .places) _ (m .pre)
 
 refused-requires : tie.Need-refused-requires
 refused-requires c κs = search needs
@@ -21,16 +20,16 @@ same-length : tie.Need-same-length
 same-length c = search needs
 
 returns : tie.Need-returns
-returns c = refused-reported (c .before .before .before .before .before .before .before .before .before .before .before .before .before .before .before .before .before .args .job .now) (c .before .before .before .before .before .before .before .before .before .before .before .before .before .before .before .before .before .args .places) (c .before .before .before .before .before .before .before .before .before .before .before .before .before .before .before .before .before .args .regs .now) (c .before .before .before .before .before .before .before .before .before .before .before .before .before .before .before .before .before .pre) _ (c .before .before .before .before .before .before .before .before .before .before .before .before .start .ensures) _ (c .before .before .before .before .before .before .merge-all .ensures) (c .before .before .if1 .taken) _ _ (c .refused .ensures)
+returns c = let m = c .before .before .before .before .before .before .before .before .before .before .before .before .before .before .before .before .before in refused-reported (m .args .job .now) (m .args .places) (m .args .regs .now) (m .pre) _ (c .before .before .before .before .before .before .before .before .before .before .before .before .start .ensures) _ (c .before .before .before .before .before .before .merge-all .ensures) (c .before .before .if1 .taken) _ _ (c .refused .ensures)
 
 finish-requires : tie.Need-finish-requires
-finish-requires c κs = (all-small _ _ _ _ _ (places-say (c .before .before .before .before .before .before .before .before .before .before .before .before .before .before .before .before .before .before .args .job .now) (c .before .before .before .before .before .before .before .before .before .before .before .before .before .before .before .before .before .before .args .places) (c .before .before .before .before .before .before .before .before .before .before .before .before .before .before .before .before .before .before .pre .is) (c .before .before .before .before .before .before .before .before .before .before .before .before .before .before .before .before .before .before .pre .some) .high) (target (c .before .before .before .before .before .before .before .before .before .before .before .before .before .before .before .before .before .before .args .job .now) (c .before .before .before .before .before .before .before .before .before .before .before .before .before .before .before .before .before .before .args .places) (c .before .before .before .before .before .before .before .before .before .before .before .before .before .before .before .before .before .before .args .regs .now) (c .before .before .before .before .before .before .before .before .before .before .before .before .before .before .before .before .before .before .pre) _ (c .before .before .before .before .before .before .before .before .before .before .before .before .before .start .ensures) _ (c .before .before .before .before .before .before .before .merge-all .ensures)) (c .before .before .before .before .before .before .before .merge-all .ensures) (c .before .before .before .if1 .left), places-say (c .before .before .before .before .before .before .before .before .before .before .before .before .before .before .before .before .before .before .args .job .now) (c .before .before .before .before .before .before .before .before .before .before .before .before .before .before .before .before .before .before .args .places) (c .before .before .before .before .before .before .before .before .before .before .before .before .before .before .before .before .before .before .pre .is) (c .before .before .before .before .before .before .before .before .before .before .before .before .before .before .before .before .before .before .pre .some) .names)
+finish-requires c κs = let m = c .before .before .before .before .before .before .before .before .before .before .before .before .before .before .before .before .before .before in (all-whole (m .args .job .now) (m .args .places) (m .args .regs .now) (m .pre) _ (c .before .before .before .before .before .before .before .before .before .before .before .before .before .start .ensures) _ (c .before .before .before .before .before .before .before .merge-all .ensures) (c .before .before .before .if1 .left), m .pre .is)
 
 same-length-2 : tie.Need-same-length-2
 same-length-2 c = search needs
 
 returns-2 : tie.Need-returns-2
-returns-2 c = merged-reported (c .before .before .before .before .before .before .before .before .before .before .before .before .before .before .before .before .before .before .before .args .job .now) (c .before .before .before .before .before .before .before .before .before .before .before .before .before .before .before .before .before .before .before .args .places) (c .before .before .before .before .before .before .before .before .before .before .before .before .before .before .before .before .before .before .before .args .regs .now) (c .before .before .before .before .before .before .before .before .before .before .before .before .before .before .before .before .before .before .before .pre) _ (c .before .before .before .before .before .before .before .before .before .before .before .before .before .before .start .ensures) _ (c .before .before .before .before .before .before .before .before .merge-all .ensures) (c .before .before .before .before .if1 .left) _ _ (c .finish .ensures)
+returns-2 c = let m = c .before .before .before .before .before .before .before .before .before .before .before .before .before .before .before .before .before .before .before in merged-reported (m .args .job .now) (m .args .places) (m .args .regs .now) (m .pre) _ (c .before .before .before .before .before .before .before .before .before .before .before .before .before .before .start .ensures) _ (c .before .before .before .before .before .before .before .before .merge-all .ensures) (c .before .before .before .before .if1 .left) _ _ (c .finish .ensures)
 
 pub run-in-spec : {M : Type 1} → statement M
 run-in-spec =

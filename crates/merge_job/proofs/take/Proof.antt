@@ -1,5 +1,5 @@
 -- `merge_job::take` meets its contract. Assumes nothing.
-use mathlib.Core.Path.{_≡_, refl, sym, _∙_, ap}
+use mathlib.Core.Path.{sym, _∙_, ap}
 use native.Mathlib.Omega.{arith}
 use Rattle.merge_job.proofs.Filed.{fits}
 use Rattle.merge_job.proofs.Joining.{take-refused, take-joined, size-room, size-same, lent}

@@ -1,4 +1,4 @@
--- `station::main` meets its contract: what is expected of the kind 4 sketch follows from what `fill_four` ensures, and the two parts are lent that sketch. Assumes nothing.
+-- `station::main` meets its contract: what is expected of the kind 4 sketch follows from what `fill_four` ensures, and two parts are lent that sketch. Assumes nothing.
 use borrow.Author.Needs.{needs}
 use Rattle.station.proofs.main.Statement.{statement}
 use Rattle.station.proofs.main.Tie as tie
@@ -24,6 +24,9 @@ show-joined-requires c κs = search needs
 show-image-requires : tie.Need-show-image-requires
 show-image-requires c κs = search needs
 
+show-routes-requires : tie.Need-show-routes-requires
+show-routes-requires c κs = search needs
+
 returns : tie.Need-returns
 returns c = search needs
 
@@ -38,4 +41,5 @@ main-spec =
     expect-requires-4
     show-joined-requires
     show-image-requires
+    show-routes-requires
     returns)

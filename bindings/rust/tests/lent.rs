@@ -1,9 +1,10 @@
-//! Each function once, with what it should give, and once refused.
+//! Each lent call once, with what it should give, and once refused.
 
-use lintelpear::{Fed, Record, Refusal, open, start};
+use lintelpear::Refusal;
+use lintelpear::lent::{Fed, Record, open, start};
 
 fn coupon(slot: u32, value: u32) -> u32 {
-    value << 26 | slot
+    (value << 26) | slot
 }
 
 #[test]
