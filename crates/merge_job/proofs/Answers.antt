@@ -8,7 +8,6 @@ use native.Mathlib.Omega.{arith}
 use lib.Dec.{eqb, leb}
 use lib.ListN.{length, getD, length-replicate}
 use lib.Pow.{pow-mono}
-use borrow.Author.Tests.{eqb-true}
 use Rattle.model.specs.Pick.{pick, both, firstOf}
 use Rattle.model.specs.Table.{baseFor, tableSize}
 use Rattle.model.specs.Sketch.{isKind, Good}
@@ -17,6 +16,7 @@ use Rattle.model.specs.Calls.{Out, mergeOf}
 use Rattle.model.specs.Image.{sketchIn}
 use Rattle.model.specs.Claims.{Unless, refused, passed, SketchLines}
 use Rattle.model.specs.declared.Sketch.{Sketch}
+use Rattle.model.proofs.Picked.{picked}
 use Rattle.model.proofs.FirstLaws.{true-not-false}
 use Rattle.model.proofs.Shape.{size-shorter}
 use Rattle.model.proofs.Demand1.{kind-tells}
@@ -98,14 +98,6 @@ good-passes s regs aux g u =
     let h = g .shaped in
     passes g (passes tt (passes (h .long) (passes (h .low, h .high) (passes (kind-tells (s .kind) .0 (h .is-kind)) u))))
 
--- what is done where a number is 0, or given back where it is not
-then-answers : {A : Type 0} (number : A → ℕ) (n : ℕ) (done back : A) → Answers (number back) → (n ≡ 0 → Answers (number done)) → Answers (number (pick (eqb n 0) done back))
-then-answers number n done back m f = go (eqb n 0) refl
-  where
-    go : (b : Bool) → eqb n 0 ≡ b → Answers (number (pick b done back))
-    go true q = f (eqb-true n 0 q)
-    go false q = m
-
 module _ (lgk : ℕ) (t : Sketch) (tregs : List ℕ) (g : Target lgk t tregs) where
   merge-answers : (s : Sketch) (sregs saux : List ℕ) → Good s sregs saux → Answers (mergeOf t tregs s sregs saux .no)
   unfolding among
@@ -118,9 +110,9 @@ module _ (lgk : ℕ) (t : Sketch) (tregs : List ℕ) (g : Target lgk t tregs) wh
   unfolding takeOf joinOf openedOf among
   file-answers unread = record { is = refl }
   file-answers (came l b) =
-      then-answers (λ (o : Out). o .no) (fileNo l) (joinOf t tregs l) _ (unopened-answers l) (λ z.
-      then-answers (λ (o : Out). o .no) (openedOf l .no) _ _ (opened-answers l (fits l z)) (λ y.
-      merge-answers _ _ _ (opens-good l _ _ _ b y)))
+      picked (fileNo l) _ _ (λ (o : Out). Answers (o .no)) (λ z.
+      picked (openedOf l .no) _ _ (λ (o : Out). Answers (o .no)) (λ y.
+      merge-answers _ _ _ (opens-good l _ _ _ b y)) (λ n. opened-answers l (fits l z))) (λ n. unopened-answers l)
 
   -- NO_ROOM can't occur
   pub never-no-room : (f : File) → fileOf t tregs f .no ≡ 6 → ⊥
@@ -136,8 +128,8 @@ pub all-answers : (lgk i : ℕ) (t : Sketch) (tregs : List ℕ) (fs : List File)
 unfolding mergeAll among
 all-answers lgk i t tregs [] g = record { is = refl }
 all-answers lgk i t tregs (f ∷ fs) g =
-    then-answers (λ (m : Merging). m .no) (fileOf t tregs f .no) _ _ (file-answers lgk t tregs g f) (λ z.
-    all-answers lgk (suc i) _ _ fs (file-keeps lgk t tregs g f z))
+    picked (fileOf t tregs f .no) _ _ (λ (m : Merging). Answers (m .no)) (λ z.
+    all-answers lgk (suc i) _ _ fs (file-keeps lgk t tregs g f z)) (λ n. file-answers lgk t tregs g f)
 
 -- and what a run comes to
 pub merged-answers : (lgk files : ℕ) (t : Sketch) (tregs : List ℕ) (m : Merging) → Target lgk t tregs → Merged files t tregs m → Answers (m .no)

@@ -26,7 +26,7 @@ use Rattle.model.proofs.Writing.{image-long, write-no, writes}
 use Rattle.model.proofs.Room.{few-exceptions, few-words}
 use Rattle.model.proofs.Kept.{start-has, eight-aux}
 use Rattle.model.proofs.Sending.{image-wrote, record-back}
-use Rattle.model.proofs.Demands.{Holding, Holds, mergedTo, holds-merged, holds-run}
+use Rattle.model.proofs.Demands.{Holding, Holds, mergedTo, holds-merged, holds-run, holds-stands}
 use Rattle.model.proofs.Demand3.{same-as, eight-shaped}
 use Rattle.model.proofs.Claims.{opens-good, reopens, feed-keeps, merge-keeps}
 use Rattle.judge.specs.Ladder.{frontNo}
@@ -114,7 +114,7 @@ module _ (lgk : ℕ) (t : Sketch) (tregs done : List ℕ) (g : Target lgk t treg
       let w = writes (s .sketch) (s .regs) (s .aux) (s .buf) (sym (write-no (s .sketch) (s .regs) (s .aux) (s .buf)) ∙ s .accepted) in
       let is : l ≡ image = s .image ∙ ap (λ (w : Written). take (w .len) (w .out)) w ∙ take-at image _ (length image) refl in
       subst (λ (x : List ℕ). Gives lgk (done ++ one) (takeOf t tregs x)) (sym is)
-      (image-gives (s .sketch) (s .regs) (s .aux) one (holds-run (s .calls) (s .number) (s .sketch) (s .regs) (s .aux) one (s .stands)) (s .small) (s .no-coarser) (subst Bytes is b))
+      (image-gives (s .sketch) (s .regs) (s .aux) one (holds-stands (s .stands)) (rw (s .stands .same-size) (s .small)) (rw (s .stands .same-size) (s .no-coarser)) (subst Bytes is b))
 
 -- ---- all of them
 abbrev Ends : ℕ → List ℕ → Merging → Type 0

@@ -9,7 +9,7 @@ use lib.ListN.{length, take}
 use Rattle.model.specs.Pick.{pick}
 use Rattle.model.specs.Sketch.{registers}
 use Rattle.model.specs.Image.{imageIn, writeOf}
-use Rattle.model.specs.History.{here, Call, run}
+use Rattle.model.specs.History.{Stands}
 use Rattle.model.specs.Claims.{SameSet, freshlyFed}
 use Rattle.model.specs.declared.Sketch.{Sketch}
 use Rattle.job.specs.Job.{Job, Fit, textOf, jobOf}
@@ -56,15 +56,15 @@ AllKeep = (lgk i : ℕ) (t : Sketch) (tregs : List ℕ) (fs : List File) → Tar
 -- ---- from end to end
 -- these bytes are what write makes of a sketch of any kind that stands in some history, no coarser than lgk and not LARGE; these coupons have reached it
 pub record Sent (lgk : ℕ) (l got : List ℕ) : Type 0 where
-  pub calls : List Call
-  pub number : ℕ
+  pub kind : ℕ
+  pub size : ℕ
   pub sketch : Sketch
   pub regs : List ℕ
   pub aux : List ℕ
   pub buf : List ℕ
-  pub stands : run calls number ≡ here sketch regs aux got
-  pub no-coarser : lgk ≤ sketch .«lg_k»
-  pub small : sketch .«lg_k» ≤ 12
+  pub stands : Stands kind size got sketch regs aux
+  pub no-coarser : lgk ≤ size
+  pub small : size ≤ 12
   pub accepted : writeOf sketch regs aux buf .no ≡ 0
   pub image : l ≡ take (writeOf sketch regs aux buf .len) (writeOf sketch regs aux buf .out)
 

@@ -13,9 +13,10 @@ use Rattle.model.specs.Four.{State}
 use Rattle.model.specs.Sketch.{registers, Good}
 use Rattle.model.specs.Check.{shapeNo, scratchFits, checkNo}
 use Rattle.model.specs.Calls.{Out, nothing, startOf, feedOf, mergeNo, mergeOf}
-use Rattle.model.specs.History.{Place, none, here, World, Call, start, feed, merge, send, put, makes, feeds, merges, sends, step, after, run}
+use Rattle.model.specs.History.{Place, none, here, World, Call, start, feed, merge, send, put, makes, feeds, merges, sends, step, after, run, Stands}
 use Rattle.model.specs.Claims.{Demand2}
 use Rattle.model.specs.declared.Sketch.{Sketch}
+use Rattle.model.proofs.Picked.{picked}
 use Rattle.model.proofs.Largest.{fed-at, joined-at, is-largest, largest-append}
 use Rattle.model.proofs.Sound.{Has}
 use Rattle.model.proofs.Kept.{start-has, feed-has, merge-says, merge-has, registers-long}
@@ -94,22 +95,20 @@ holds-merge none q h j = h
 holds-merge (here t tregs taux got) none h j = h
 holds-merge (here t tregs taux got) (here s sregs saux more) h j = holds-merged t tregs taux got s sregs saux more h j
 
-holds-pick : (b : Bool) (p q : Place) → (b ≡ true → Holds p) → Holds q → Holds (pick b p q)
-holds-pick true p q f h = f refl
-holds-pick false p q f h = h
-
 holds-send : (p q : Place) (buf regs aux scratch : List ℕ) → Holds p → Holds q → Holds (sends p q buf regs aux scratch)
 unfolding sends
 holds-send none q buf regs aux scratch h j = j
 holds-send (here s sregs saux got) q buf regs aux scratch h j =
-    holds-pick _ _ _ (λ x. holds-pick _ _ _ (λ y.
-    let w = eqb-true _ _ x in
-    let o = eqb-true _ _ y in
+    picked _ _ q Holds (λ w. picked _ _ q Holds (λ o.
     let a = sent-again s sregs saux buf (h .good) w regs aux scratch o in
-    record { good = sent-good s sregs saux buf (h .good) w regs aux scratch o; each = rw (a .same-registers, a .same-sketch) (h .each) }) j) j
+    record { good = sent-good s sregs saux buf (h .good) w regs aux scratch o; each = rw (a .same-registers, a .same-sketch) (h .each) }) (λ n. j)) (λ n. j)
 
 holds-put : (w : World) (n : ℕ) (p : Place) → ((i : ℕ) → Holds (w i)) → Holds p → (i : ℕ) → Holds (put w n p i)
-holds-put w n p h k i = holds-pick (eqb i n) p (w i) (λ e. k) (h i)
+holds-put w n p h k i = go (eqb i n)
+  where
+    go : (b : Bool) → Holds (pick b p (w i))
+    go true = k
+    go false = h i
 
 holds-step : (w : World) (c : Call) → ((i : ℕ) → Holds (w i)) → (i : ℕ) → Holds (step w c i)
 unfolding step
@@ -125,6 +124,9 @@ holds-after w (c ∷ cs) h = holds-after (step w c) cs (holds-step w c h)
 
 pub holds-run : (calls : List Call) (n : ℕ) (s : Sketch) (regs aux got : List ℕ) → run calls n ≡ here s regs aux got → Holding s regs aux got
 holds-run calls n s regs aux got e = subst Holds e (holds-after (λ i. none) calls (λ i. tt) n)
+
+pub holds-stands : {kind lgk : ℕ} {got : List ℕ} {s : Sketch} {regs aux : List ℕ} → Stands kind lgk got s regs aux → Holding s regs aux got
+holds-stands h = holds-run (h .calls) (h .number) _ _ _ _ (h .stands)
 
 pub demand-2 : Demand2
 demand-2 calls n s regs aux got e =

@@ -41,6 +41,7 @@ pub mod FourLawful
 pub mod Lawful
 pub mod Starting
 pub mod Kept
+pub mod Picked
 pub mod Refused
 pub mod Largest
 pub mod Floors

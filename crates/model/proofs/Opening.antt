@@ -1,14 +1,12 @@
 -- What open accepts is in good order. Assumes nothing.
 use mathlib.Core.Path.{_≡_, refl, sym, _∙_, subst}
-use mathlib.Core.Bool.{Bool, true, false}
+use mathlib.Core.Bool.{true}
 use mathlib.Core.List.{List}
 use Prim.Native.Nat.{ℕ}
 use native.Mathlib.Omega.{arith}
-use lib.Dec.{eqb}
 use lib.ListN.{length, drop, length-drop}
 use lib.Seq.{length-take-le}
-use borrow.Author.Tests.{eqb-true, eq-eqb}
-use Rattle.model.specs.Pick.{pick}
+use borrow.Author.Tests.{eq-eqb}
 use Rattle.model.specs.Packed.{Bytes}
 use Rattle.model.specs.Sketch.{bytesOf, areaOf, Shaped, Good}
 use Rattle.model.specs.Check.{goodOf}
@@ -22,6 +20,7 @@ use Rattle.model.proofs.Lawful.{lawful}
 use Rattle.model.proofs.Tests.{good-asks}
 use Rattle.model.proofs.Entries.{aux-tells}
 use Rattle.model.proofs.Taken.{madeOf, made-fits}
+use Rattle.model.proofs.Picked.{picked-no}
 use Rattle.model.proofs.Opens.{Opens, open-says}
 
 -- the area that an image makes
@@ -30,13 +29,8 @@ areaIn l aux = areaOf (sketchIn l .kind) (madeOf (sketchIn l) (entriesIn l)) aux
 
 module _ (l regs aux scratch : List ℕ) where
   pub open-no : openOf l regs aux scratch .no ≡ openNo l regs aux scratch
-  unfolding openOf areaIn
-  open-no = go (eqb (openNo l regs aux scratch) 0) refl
-    where
-      go : (b : Bool) → eqb (openNo l regs aux scratch) 0 ≡ b
-          → pick b (out 0 (sketchIn l) 0 (regsIn l) (areaIn l aux)) (out (openNo l regs aux scratch) nothing 0 regs aux) .no ≡ openNo l regs aux scratch
-      go true e = sym (eqb-true _ _ e)
-      go false e = refl
+  unfolding openOf
+  open-no = picked-no (openNo l regs aux scratch) _ _ (λ (o : Out). o .no) refl refl
 
   pub opens-to : openNo l regs aux scratch ≡ 0 → openOf l regs aux scratch ≡ out 0 (sketchIn l) 0 (regsIn l) (areaIn l aux)
   unfolding openOf areaIn

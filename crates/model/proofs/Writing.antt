@@ -1,19 +1,17 @@
 -- The image of a sketch in good order: its parts, its length, its bytes; and what write leaves. Assumes nothing.
 use mathlib.Core.Path.{_≡_, refl, sym, ap, ap₂, _∙_, subst}
-use mathlib.Core.Bool.{Bool, true, false}
+use mathlib.Core.Bool.{true}
 use mathlib.Core.List.{List, _++_}
 use Prim.Native.Nat.{ℕ, _+_, _*_, _^_, _≤_}
 use native.Mathlib.Omega.{arith}
-use lib.Dec.{eqb}
 use lib.ListN.{length, drop, length-append}
 use lib.Pow.{pow-mono}
-use borrow.Author.Tests.{eqb-true}
-use Rattle.model.specs.Pick.{pick}
 use Rattle.model.specs.Packed.{Bytes, packed}
 use Rattle.model.specs.Sketch.{bytesOf, registers, Shaped, Good}
 use Rattle.model.specs.Check.{countsFit, goodOf}
 use Rattle.model.specs.Image.{header, imageOf, imageIn, Written, wrote, writeNo, writeOf}
 use Rattle.model.specs.declared.Sketch.{Sketch}
+use Rattle.model.proofs.Picked.{picked-no}
 use Rattle.model.proofs.Tells.{tells-le}
 use Rattle.model.proofs.Ladder.{Says, says-as, says-pass, says-last, says-next, check-says}
 use Rattle.model.proofs.ByteLists.{length-packed, bytes-append}
@@ -48,12 +46,7 @@ module _ (s : Sketch) (regs aux : List ℕ) (g : Good s regs aux) where
 module _ (s : Sketch) (regs aux buf : List ℕ) where
   pub write-no : writeOf s regs aux buf .no ≡ writeNo s regs aux buf
   unfolding writeOf
-  write-no = go (eqb (writeNo s regs aux buf) 0) refl
-    where
-      go : (b : Bool) → eqb (writeNo s regs aux buf) 0 ≡ b
-          → pick b (wrote 0 (length (imageIn s regs aux)) (imageIn s regs aux ++ drop (length (imageIn s regs aux)) buf)) (wrote (writeNo s regs aux buf) 0 buf) .no ≡ writeNo s regs aux buf
-      go true e = sym (eqb-true _ _ e)
-      go false e = refl
+  write-no = picked-no (writeNo s regs aux buf) _ _ (λ (w : Written). w .no) refl refl
 
   -- it refuses a sketch that is not in good order, and a buffer that is too short
   pub write-says : Says (writeNo s regs aux buf) ((Shaped (s .kind) (s .«lg_k») (length regs) × (goodOf s regs aux ≡ true)) × (length (imageIn s regs aux) ≤ length buf))

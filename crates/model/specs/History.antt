@@ -1,5 +1,6 @@
 -- Histories of starting, feeding, merging and sending sketches, each with its memory to itself, and the coupons that have reached each.
 -- A call here is what its contract says: refused calls and stopped batches are part of a history too.
+use mathlib.Core.Path.{_≡_}
 use mathlib.Core.List.{List, [], _∷_, _++_}
 use Prim.Native.Nat.{ℕ}
 use lib.Dec.{eqb}
@@ -71,3 +72,11 @@ after w (c ∷ cs) = after (step w c) cs
 -- a history, from no sketch at all
 abbrev pub run : List Call → World
 run calls = after (λ n. none) calls
+
+-- a sketch of this kind and size stands in some history, and these coupons have reached it
+pub record Stands (kind lgk : ℕ) (got : List ℕ) (s : Sketch) (regs aux : List ℕ) : Type 0 where
+  pub calls : List Call
+  pub number : ℕ
+  pub stands : run calls number ≡ here s regs aux got
+  pub same-kind : s .kind ≡ kind
+  pub same-size : s .«lg_k» ≡ lgk

@@ -11,16 +11,15 @@ use borrow.Author.Tests.{eq-eqb, ne-eqb}
 use Rattle.model.specs.Sketch.{Shaped, Good}
 use Rattle.model.specs.Check.{goodOf, scratchFits, checkNo}
 use Rattle.model.specs.Calls.{Out, startOf, feedOf, mergeNo, mergeOf}
-use Rattle.model.specs.History.{Place, here, World, Call, start, feed, merge, put, feeds, merges, step, after, run}
+use Rattle.model.specs.History.{Place, here, World, Call, start, feed, merge, put, feeds, merges, step, after, run, Stands}
 use Rattle.model.specs.Claims.{Scratch, FeedLine}
 use Rattle.model.specs.declared.Sketch.{Sketch}
 use Rattle.model.proofs.Ladder.{shape-says}
 use Rattle.model.proofs.Tells.{tells-true}
 use Rattle.model.proofs.Tests.{scratch-tells}
 use Rattle.model.proofs.Kept.{ok-check, good-bytes, start-has, feed-has, feed-line, merge-says, merge-has}
-use Rattle.model.proofs.Demands.{holds-run}
+use Rattle.model.proofs.Demands.{holds-stands}
 use Rattle.model.proofs.Claims.{twice-is-room}
-use Rattle.routes.specs.Routes.{Stands}
 use Rattle.routes.proofs.Beside.{after-append, even, odd, both, beside-even, beside-odd}
 
 -- what a call gives back stands
@@ -29,7 +28,7 @@ Gives kind lgk got o = Stands kind lgk got (o .sketch) (o .regs) (o .aux)
 
 -- and is in good order
 pub stands-good : {kind lgk : ℕ} {got : List ℕ} {s : Sketch} {regs aux : List ℕ} → Stands kind lgk got s regs aux → Good s regs aux
-stands-good h = holds-run (h .calls) (h .number) _ _ _ _ (h .stands) .good
+stands-good h = holds-stands h .good
 
 -- ---- one more call, and what it puts at its number
 module _ (cs : List Call) (n : ℕ) (c : Call) (f : World → Place) (puts : (w : World) → step w c ≡ put w n (f w)) where

@@ -9,14 +9,14 @@ use Rattle.model.specs.Table.{baseFor}
 use Rattle.model.specs.Sketch.{bytesOf}
 use Rattle.model.specs.Calls.{Out}
 use Rattle.model.specs.Image.{imageIn, Written, writeOf, openOf}
-use Rattle.model.specs.History.{Place, send, sends, step}
+use Rattle.model.specs.History.{Place, send, sends, step, Stands}
 use Rattle.model.specs.declared.Sketch.{Sketch}
 use Rattle.model.proofs.Shape.{size-shorter}
 use Rattle.model.proofs.Writing.{image-long}
 use Rattle.model.proofs.Room.{few-exceptions, no-words, few-words, image-written}
 use Rattle.model.proofs.Standing.{twice-room}
 use Rattle.model.proofs.Claims.{reopens}
-use Rattle.routes.specs.Routes.{Roomy, Stands}
+use Rattle.routes.specs.Routes.{Roomy}
 use Rattle.routes.proofs.Histories.{Gives, stands-good, one-more}
 
 -- ---- send: what is opened stands where the source stood

@@ -5,10 +5,11 @@ use mathlib.Core.Logic.{⊎-elim}
 use Prim.Native.Nat.{ℕ, _^_}
 use lib.ListN.{replicate, length-replicate}
 use Rattle.model.specs.Image.{imageIn, Written}
+use Rattle.model.specs.History.{Stands}
 use Rattle.model.specs.Claims.{SameSet}
 use Rattle.model.specs.declared.Sketch.{Sketch}
 use Rattle.model.proofs.Claims.{demand-3}
-use Rattle.routes.specs.Routes.{Stands, Reached}
+use Rattle.routes.specs.Routes.{Reached}
 use Rattle.routes.proofs.Journeys.{image-whole}
 
 pub routes-meet : {a b x y : List ℕ} → Reached a b x → Reached a b y → x ≡ y

@@ -5,7 +5,7 @@ use Prim.Native.Nat.{ℕ, _*_, _^_, _≤_}
 use lib.ListN.{length}
 use Rattle.model.specs.Sketch.{Shaped}
 use Rattle.model.specs.Image.{imageIn}
-use Rattle.model.specs.History.{here, Call, run}
+use Rattle.model.specs.History.{Stands}
 use Rattle.model.specs.Claims.{Scratch, SameSet}
 use Rattle.model.specs.declared.Sketch.{Sketch}
 use Rattle.routes.specs.declared.Four.{Four}
@@ -17,14 +17,6 @@ pub record Roomy (kind lgk : ℕ) (regs aux scratch : List ℕ) : Type 0 where
   pub shaped : Shaped kind lgk (length regs)
   pub room : kind ≡ 4 → 2 * 2 ^ lgk ≤ length aux
   pub scratched : Scratch kind aux scratch
-
--- a sketch of this kind and size stands in some history, and these coupons have reached it
-pub record Stands (kind lgk : ℕ) (got : List ℕ) (s : Sketch) (regs aux : List ℕ) : Type 0 where
-  pub calls : List Call
-  pub number : ℕ
-  pub stands : run calls number ≡ here s regs aux got
-  pub same-kind : s .kind ≡ kind
-  pub same-size : s .«lg_k» ≡ lgk
 
 -- the same of a sketch with its memory
 abbrev pub InFour : List ℕ → Four → Type 0

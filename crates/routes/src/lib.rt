@@ -6,7 +6,8 @@ ghost use mathlib.Core.Bool.{true};
 ghost use mathlib.Core.List.{List, _++_};
 ghost use Prim.Native.Nat.{ℕ};
 ghost use Rattle.model.specs.Image.{imageIn};
-ghost use Rattle.routes.specs.Routes.{Roomy, Stands, InFour, InSix, InEight, Reached};
+ghost use Rattle.model.specs.History.{Stands};
+ghost use Rattle.routes.specs.Routes.{Roomy, InFour, InSix, InEight, Reached};
 
 // A sketch and the memory that it is kept in: 32 registers of kinds 4 and 6, 16 of kind 8. Only kind 4 uses its area.
 pub struct Four {
