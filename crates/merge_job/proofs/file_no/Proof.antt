@@ -26,19 +26,73 @@ is-kind-requires : tie.Need-is-kind-requires
 is-kind-requires c κs = search needs
 
 returns-3 : tie.Need-returns-3
-returns-3 c = file-mode (c .before .before .before .before .before .before .before .before .args .image .now) (c .before .before .before .before .before .before .if1 .left) (sym (c .before .before .before .before .before .front .ensures) ∙ sym (c .before .before .before .before .number .ensures) ∙ c .before .before .before .if2 .left) _ (c .before .before .sketch-in .ensures) (sym (c .before .is-kind .ensures) ∙ not-true _ (c .if3 .taken))
+returns-3 c =
+    let at-is-kind = c .before in
+    let at-sketch-in = at-is-kind .before in
+    let at-if2 = at-sketch-in .before in
+    let at-number = at-if2 .before in
+    let at-front = at-number .before in
+    let at-if1 = at-front .before in
+    let m = at-if1 .before .before in
+    let front = sym (at-front .front .ensures) ∙ sym (at-number .number .ensures) ∙ at-if2 .if2 .left in
+    file-mode (m .args .image .now) (at-if1 .if1 .left) front _ (at-sketch-in .sketch-in .ensures) (sym (at-is-kind .is-kind .ensures) ∙ not-true _ (c .if3 .taken))
 
 returns-4 : tie.Need-returns-4
-returns-4 c = file-low (c .before .before .before .before .before .before .before .before .before .before .args .image .now) (c .before .before .before .before .before .before .before .before .if1 .left) (sym (c .before .before .before .before .before .before .before .front .ensures) ∙ sym (c .before .before .before .before .before .before .number .ensures) ∙ c .before .before .before .before .before .if2 .left) _ (c .before .before .before .before .sketch-in .ensures) (sym (c .before .before .before .is-kind .ensures) ∙ not-false _ (c .before .before .if3 .left)) (c .if4 .taken)
+returns-4 c =
+    let at-if3 = c .before .before in
+    let at-is-kind = at-if3 .before in
+    let at-sketch-in = at-is-kind .before in
+    let at-if2 = at-sketch-in .before in
+    let at-number = at-if2 .before in
+    let at-front = at-number .before in
+    let at-if1 = at-front .before in
+    let m = at-if1 .before .before in
+    let front = sym (at-front .front .ensures) ∙ sym (at-number .number .ensures) ∙ at-if2 .if2 .left in
+    file-low (m .args .image .now) (at-if1 .if1 .left) front _ (at-sketch-in .sketch-in .ensures) (sym (at-is-kind .is-kind .ensures) ∙ not-false _ (at-if3 .if3 .left)) (c .if4 .taken)
 
 returns-5 : tie.Need-returns-5
-returns-5 c = file-high (c .before .before .before .before .before .before .before .before .before .before .before .before .args .image .now) (c .before .before .before .before .before .before .before .before .before .before .if1 .left) (sym (c .before .before .before .before .before .before .before .before .before .front .ensures) ∙ sym (c .before .before .before .before .before .before .before .before .number .ensures) ∙ c .before .before .before .before .before .before .before .if2 .left) _ (c .before .before .before .before .before .before .sketch-in .ensures) (sym (c .before .before .before .before .before .is-kind .ensures) ∙ not-false _ (c .before .before .before .before .if3 .left)) (c .before .before .if4 .left) (c .if5 .taken)
+returns-5 c =
+    let at-if4 = c .before .before in
+    let at-if3 = at-if4 .before .before in
+    let at-is-kind = at-if3 .before in
+    let at-sketch-in = at-is-kind .before in
+    let at-if2 = at-sketch-in .before in
+    let at-number = at-if2 .before in
+    let at-front = at-number .before in
+    let at-if1 = at-front .before in
+    let m = at-if1 .before .before in
+    let front = sym (at-front .front .ensures) ∙ sym (at-number .number .ensures) ∙ at-if2 .if2 .left in
+    file-high (m .args .image .now) (at-if1 .if1 .left) front _ (at-sketch-in .sketch-in .ensures) (sym (at-is-kind .is-kind .ensures) ∙ not-false _ (at-if3 .if3 .left)) (at-if4 .if4 .left) (c .if5 .taken)
 
 returns-6 : tie.Need-returns-6
-returns-6 c = file-large (c .before .before .before .before .before .before .before .before .before .before .before .before .before .before .args .image .now) (c .before .before .before .before .before .before .before .before .before .before .before .before .if1 .left) (sym (c .before .before .before .before .before .before .before .before .before .before .before .front .ensures) ∙ sym (c .before .before .before .before .before .before .before .before .before .before .number .ensures) ∙ c .before .before .before .before .before .before .before .before .before .if2 .left) _ (c .before .before .before .before .before .before .before .before .sketch-in .ensures) (sym (c .before .before .before .before .before .before .before .is-kind .ensures) ∙ not-false _ (c .before .before .before .before .before .before .if3 .left)) (c .before .before .before .before .if4 .left) (c .before .before .if5 .left) (c .if6 .taken)
+returns-6 c =
+    let at-if5 = c .before .before in
+    let at-if4 = at-if5 .before .before in
+    let at-if3 = at-if4 .before .before in
+    let at-is-kind = at-if3 .before in
+    let at-sketch-in = at-is-kind .before in
+    let at-if2 = at-sketch-in .before in
+    let at-number = at-if2 .before in
+    let at-front = at-number .before in
+    let at-if1 = at-front .before in
+    let m = at-if1 .before .before in
+    let front = sym (at-front .front .ensures) ∙ sym (at-number .number .ensures) ∙ at-if2 .if2 .left in
+    file-large (m .args .image .now) (at-if1 .if1 .left) front _ (at-sketch-in .sketch-in .ensures) (sym (at-is-kind .is-kind .ensures) ∙ not-false _ (at-if3 .if3 .left)) (at-if4 .if4 .left) (at-if5 .if5 .left) (c .if6 .taken)
 
 returns-7 : tie.Need-returns-7
-returns-7 c = file-fits (c .before .before .before .before .before .before .before .before .before .before .before .before .before .before .args .image .now) (c .before .before .before .before .before .before .before .before .before .before .before .before .if1 .left) (sym (c .before .before .before .before .before .before .before .before .before .before .before .front .ensures) ∙ sym (c .before .before .before .before .before .before .before .before .before .before .number .ensures) ∙ c .before .before .before .before .before .before .before .before .before .if2 .left) _ (c .before .before .before .before .before .before .before .before .sketch-in .ensures) (sym (c .before .before .before .before .before .before .before .is-kind .ensures) ∙ not-false _ (c .before .before .before .before .before .before .if3 .left)) (c .before .before .before .before .if4 .left) (c .before .before .if5 .left) (c .if6 .left)
+returns-7 c =
+    let at-if5 = c .before .before in
+    let at-if4 = at-if5 .before .before in
+    let at-if3 = at-if4 .before .before in
+    let at-is-kind = at-if3 .before in
+    let at-sketch-in = at-is-kind .before in
+    let at-if2 = at-sketch-in .before in
+    let at-number = at-if2 .before in
+    let at-front = at-number .before in
+    let at-if1 = at-front .before in
+    let m = at-if1 .before .before in
+    let front = sym (at-front .front .ensures) ∙ sym (at-number .number .ensures) ∙ at-if2 .if2 .left in
+    file-fits (m .args .image .now) (at-if1 .if1 .left) front _ (at-sketch-in .sketch-in .ensures) (sym (at-is-kind .is-kind .ensures) ∙ not-false _ (at-if3 .if3 .left)) (at-if4 .if4 .left) (at-if5 .if5 .left) (c .if6 .left)
 
 pub file-no-spec : {M : Type 1} → statement M
 file-no-spec =

@@ -45,7 +45,11 @@ slice-aggregate-put : tie.Need-slice-aggregate-put
 slice-aggregate-put c = let w = written _ _ _ (c .before .before .before .before .before .before .before .before .before .before .before .pre .0) _ _ (c .before .before .before .before .before .before .write .ensures) (search needs) in sym (length-take-le _ _ (omega arith))
 
 put-requires : tie.Need-put-requires
-put-requires c κs = let m = c .before .before .before .before .before .before .before .before .before .before .before in puts (m .args .job .now) _ _ (m .pre .0) (m .args .places) (m .pre .1) _ (c .before .before .before .path-in .ensures) _ (written _ _ _ (m .pre .0) _ _ (c .before .before .before .before .before .before .write .ensures) (search needs) .0)
+put-requires c κs =
+    let at-path-in = c .before .before .before in
+    let at-write = at-path-in .before .before .before in
+    let m = at-write .before .before .before .before .before in
+    puts (m .args .job .now) _ _ (m .pre .0) (m .args .places) (m .pre .1) _ (at-path-in .path-in .ensures) _ (written _ _ _ (m .pre .0) _ _ (at-write .write .ensures) (search needs) .0)
 
 refused-requires : tie.Need-refused-requires
 refused-requires c κs = search needs
@@ -54,7 +58,10 @@ returns : tie.Need-returns
 returns c = (false, c .refused .ensures)
 
 merged-requires : tie.Need-merged-requires
-merged-requires c κs = tellable _ _ _ (c .before .before .before .before .before .before .before .before .before .before .before .before .before .before .pre .0) (λ i. c .before .before .before .before .before .before .before .before .before .before .before .before .before .shared-slice-known .given i .fits)
+merged-requires c κs =
+    let at-shared-slice-known = c .before .before .before .before .before .before .before .before .before .before .before .before .before in
+    let m = at-shared-slice-known .before in
+    tellable _ _ _ (m .pre .0) (λ i. at-shared-slice-known .shared-slice-known .given i .fits)
 
 returns-2 : tie.Need-returns-2
 returns-2 c = (true, c .merged .ensures)

@@ -21,7 +21,11 @@ same-length-3 : tie.Need-same-length-3
 same-length-3 c = search needs
 
 returns : tie.Need-returns
-returns c = join-refused (c .before .before .before .before .before .before .before .before .before .before .before .before .before .before .before .before .before .args .target) (c .before .before .before .before .before .before .before .before .before .before .before .before .before .before .before .before .before .args .tregs .now) (c .before .before .before .before .before .before .before .before .before .before .before .before .before .before .before .before .before .args .image .now) (c .before .before .before .before .before .before .before .before .before .before .before .before .before .before .before .before .before .args .regs .now) (c .before .before .before .before .before .before .before .before .before .before .before .before .before .before .before .before .before .args .aux .now) (c .before .before .before .before .before .before .before .before .before .before .before .before .before .before .before .before .before .args .scratch .now) (c .before .before .before .before .before .before .before .before .before .before .before .before .before .before .before .before .before .pre) _ _ _ _ (c .before .before .before .before .before .before .before .before .«open» .ensures) _ (c .before .number .ensures) (c .if1 .taken)
+returns c =
+    let at-number = c .before in
+    let at-open = at-number .before .before .before .before .before .before .before in
+    let m = at-open .before .before .before .before .before .before .before .before .before in
+    join-refused (m .args .target) (m .args .tregs .now) (m .args .image .now) (m .args .regs .now) (m .args .aux .now) (m .args .scratch .now) (m .pre) _ _ _ _ (at-open .«open» .ensures) _ (at-number .number .ensures) (c .if1 .taken)
 
 merge-requires : tie.Need-merge-requires
 merge-requires c κs = search needs
@@ -42,7 +46,13 @@ same-length-7 : tie.Need-same-length-7
 same-length-7 c = search needs
 
 returns-2 : tie.Need-returns-2
-returns-2 c = join-merged (c .before .before .before .before .before .before .before .before .before .before .before .before .before .before .before .before .before .before .before .before .before .before .before .before .before .before .args .target) (c .before .before .before .before .before .before .before .before .before .before .before .before .before .before .before .before .before .before .before .before .before .before .before .before .before .before .args .tregs .now) (c .before .before .before .before .before .before .before .before .before .before .before .before .before .before .before .before .before .before .before .before .before .before .before .before .before .before .args .image .now) (c .before .before .before .before .before .before .before .before .before .before .before .before .before .before .before .before .before .before .before .before .before .before .before .before .before .before .args .regs .now) (c .before .before .before .before .before .before .before .before .before .before .before .before .before .before .before .before .before .before .before .before .before .before .before .before .before .before .args .aux .now) (c .before .before .before .before .before .before .before .before .before .before .before .before .before .before .before .before .before .before .before .before .before .before .before .before .before .before .args .scratch .now) (c .before .before .before .before .before .before .before .before .before .before .before .before .before .before .before .before .before .before .before .before .before .before .before .before .before .before .pre) _ _ _ _ (c .before .before .before .before .before .before .before .before .before .before .before .before .before .before .before .before .before .«open» .ensures) (c .number2 .ensures) (c .before .before .before .before .merge .ensures) (sym (c .before .before .before .before .before .before .before .before .before .before .number .ensures) ∙ c .before .before .before .before .before .before .before .before .before .if1 .left)
+returns-2 c =
+    let at-merge = c .before .before .before .before in
+    let at-if1 = at-merge .before .before .before .before .before in
+    let at-number = at-if1 .before in
+    let at-open = at-number .before .before .before .before .before .before .before in
+    let m = at-open .before .before .before .before .before .before .before .before .before in
+    join-merged (m .args .target) (m .args .tregs .now) (m .args .image .now) (m .args .regs .now) (m .args .aux .now) (m .args .scratch .now) (m .pre) _ _ _ _ (at-open .«open» .ensures) (c .number2 .ensures) (at-merge .merge .ensures) (sym (at-number .number .ensures) ∙ at-if1 .if1 .left)
 
 pub join-spec : {M : Type 1} → statement M
 join-spec =

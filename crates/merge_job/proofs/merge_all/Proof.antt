@@ -37,10 +37,20 @@ part-take-file-start : tie.Need-part-take-file-start Inv-loop μ-loop
 part-take-file-start c = omega arith
 
 part-take-file-end : tie.Need-part-take-file-end Inv-loop μ-loop
-part-take-file-end c = let m = c .before .before .before .before .before .before .before in let t = c .before .before .before .before .loop in omega (arith, within (m .args .job .now) _ _ (m .pre) (t .at) (t .done) _ (c .before .before .before .loop-test .taken) (t .inv .2) (c .before .path-in .ensures))
+part-take-file-end c =
+    let at-path-in = c .before in
+    let at-loop-test = at-path-in .before .before in
+    let at-loop = at-loop-test .before in
+    let m = at-loop .before .before .before in
+    omega (arith, within (m .args .job .now) _ _ (m .pre) (at-loop .loop .at) (at-loop .loop .done) _ (at-loop-test .loop-test .taken) (at-loop .loop .inv .2) (at-path-in .path-in .ensures))
 
 take-file-requires : tie.Need-take-file-requires Inv-loop μ-loop
-take-file-requires c κs = let m = c .before .before .before .before .before .before .before .before .before in let t = c .before .before .before .before .before .before .loop in named (m .args .job .now) _ _ (m .pre) (t .at) (t .done) _ (c .before .before .before .before .before .loop-test .taken) (t .inv .2) (c .before .before .before .path-in .ensures)
+take-file-requires c κs =
+    let at-path-in = c .before .before .before in
+    let at-loop-test = at-path-in .before .before in
+    let at-loop = at-loop-test .before in
+    let m = at-loop .before .before .before in
+    named (m .args .job .now) _ _ (m .pre) (at-loop .loop .at) (at-loop .loop .done) _ (at-loop-test .loop-test .taken) (at-loop .loop .inv .2) (at-path-in .path-in .ensures)
 
 add-t25 : tie.Need-add-t25 Inv-loop μ-loop
 add-t25 c = search needs
@@ -49,10 +59,20 @@ same-length : tie.Need-same-length Inv-loop μ-loop
 same-length c = search needs
 
 returns : tie.Need-returns Inv-loop μ-loop
-returns c = let m = c .before .before .before .before .before .before .before .before .before .before .before .before .before .before .before in let t = c .before .before .before .before .before .before .before .before .before .before .before .before .loop in refused (m .args .target) (m .args .tregs .now) (t .done) (t .sketch) (t .tregs) (t .inv .3) _ _ _ _ (c .before .before .before .before .before .take-file .ensures) _ (c .before .before .before .before .before .before .before .before .before .before .before .loop-test .taken) (c .if1 .taken)
+returns c =
+    let at-take-file = c .before .before .before .before .before in
+    let at-loop-test = at-take-file .before .before .before .before .before .before in
+    let at-loop = at-loop-test .before in
+    let m = at-loop .before .before .before in
+    refused (m .args .target) (m .args .tregs .now) (at-loop .loop .done) (at-loop .loop .sketch) (at-loop .loop .tregs) (at-loop .loop .inv .3) _ _ _ _ (at-take-file .take-file .ensures) _ (at-loop-test .loop-test .taken) (c .if1 .taken)
 
 add-at : tie.Need-add-at Inv-loop μ-loop
-add-at c = let m = c .before .before .before .before .before .before .before .before .before .before .before .before .before .before .before in let t = c .before .before .before .before .before .before .before .before .before .before .before .before .loop in omega (arith, within (m .args .job .now) _ _ (m .pre) (t .at) (t .done) _ (c .before .before .before .before .before .before .before .before .before .before .before .loop-test .taken) (t .inv .2) (c .before .before .before .before .before .before .before .before .before .path-in .ensures))
+add-at c =
+    let at-path-in = c .before .before .before .before .before .before .before .before .before in
+    let at-loop-test = at-path-in .before .before in
+    let at-loop = at-loop-test .before in
+    let m = at-loop .before .before .before in
+    omega (arith, within (m .args .job .now) _ _ (m .pre) (at-loop .loop .at) (at-loop .loop .done) _ (at-loop-test .loop-test .taken) (at-loop .loop .inv .2) (at-path-in .path-in .ensures))
 
 add-done : tie.Need-add-done Inv-loop μ-loop
 add-done c = search needs

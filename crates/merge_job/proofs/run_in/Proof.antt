@@ -20,16 +20,31 @@ same-length : tie.Need-same-length
 same-length c = search needs
 
 returns : tie.Need-returns
-returns c = let m = c .before .before .before .before .before .before .before .before .before .before .before .before .before .before .before .before .before in refused-reported (m .args .job .now) (m .args .places) (m .args .regs .now) (m .pre) _ (c .before .before .before .before .before .before .before .before .before .before .before .before .start .ensures) _ (c .before .before .before .before .before .before .merge-all .ensures) (c .before .before .if1 .taken) _ _ (c .refused .ensures)
+returns c =
+    let at-if1 = c .before .before in
+    let at-merge-all = at-if1 .before .before .before .before in
+    let at-start = at-merge-all .before .before .before .before .before .before in
+    let m = at-start .before .before .before .before .before in
+    refused-reported (m .args .job .now) (m .args .places) (m .args .regs .now) (m .pre) _ (at-start .start .ensures) _ (at-merge-all .merge-all .ensures) (at-if1 .if1 .taken) _ _ (c .refused .ensures)
 
 finish-requires : tie.Need-finish-requires
-finish-requires c κs = let m = c .before .before .before .before .before .before .before .before .before .before .before .before .before .before .before .before .before .before in (all-whole (m .args .job .now) (m .args .places) (m .args .regs .now) (m .pre) _ (c .before .before .before .before .before .before .before .before .before .before .before .before .before .start .ensures) _ (c .before .before .before .before .before .before .before .merge-all .ensures) (c .before .before .before .if1 .left), m .pre .is)
+finish-requires c κs =
+    let at-if1 = c .before .before .before in
+    let at-merge-all = at-if1 .before .before .before .before in
+    let at-start = at-merge-all .before .before .before .before .before .before in
+    let m = at-start .before .before .before .before .before in
+    (all-whole (m .args .job .now) (m .args .places) (m .args .regs .now) (m .pre) _ (at-start .start .ensures) _ (at-merge-all .merge-all .ensures) (at-if1 .if1 .left), m .pre .is)
 
 same-length-2 : tie.Need-same-length-2
 same-length-2 c = search needs
 
 returns-2 : tie.Need-returns-2
-returns-2 c = let m = c .before .before .before .before .before .before .before .before .before .before .before .before .before .before .before .before .before .before .before in merged-reported (m .args .job .now) (m .args .places) (m .args .regs .now) (m .pre) _ (c .before .before .before .before .before .before .before .before .before .before .before .before .before .before .start .ensures) _ (c .before .before .before .before .before .before .before .before .merge-all .ensures) (c .before .before .before .before .if1 .left) _ _ (c .finish .ensures)
+returns-2 c =
+    let at-if1 = c .before .before .before .before in
+    let at-merge-all = at-if1 .before .before .before .before in
+    let at-start = at-merge-all .before .before .before .before .before .before in
+    let m = at-start .before .before .before .before .before in
+    merged-reported (m .args .job .now) (m .args .places) (m .args .regs .now) (m .pre) _ (at-start .start .ensures) _ (at-merge-all .merge-all .ensures) (at-if1 .if1 .left) _ _ (c .finish .ensures)
 
 pub run-in-spec : {M : Type 1} → statement M
 run-in-spec =

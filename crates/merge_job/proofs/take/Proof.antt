@@ -20,10 +20,22 @@ bytes-of-requires : tie.Need-bytes-of-requires
 bytes-of-requires c κs = let f = fits (c .before .before .before .before .before .args .image .now) (sym (c .before .before .file-no .ensures) ∙ c .before .if1 .left) in let e = ap (λ s. s .«lg_k») (c .sketch-in .ensures) in omega arith
 
 array-borrow-prefix-regs : tie.Need-array-borrow-prefix-regs
-array-borrow-prefix-regs c = size-room (c .before .before .before .before .before .before .before .args .image .now) (fits (c .before .before .before .before .before .before .before .args .image .now) (sym (c .before .before .before .before .file-no .ensures) ∙ c .before .before .before .if1 .left)) _ (c .before .before .sketch-in .ensures) _ (c .before .bytes-of .ensures)
+array-borrow-prefix-regs c =
+    let at-bytes-of = c .before in
+    let at-sketch-in = at-bytes-of .before in
+    let at-if1 = at-sketch-in .before in
+    let at-file-no = at-if1 .before in
+    let m = at-file-no .before .before .before in
+    size-room (m .args .image .now) (fits (m .args .image .now) (sym (at-file-no .file-no .ensures) ∙ at-if1 .if1 .left)) _ (at-sketch-in .sketch-in .ensures) _ (at-bytes-of .bytes-of .ensures)
 
 slice-aggregate-join : tie.Need-slice-aggregate-join
-slice-aggregate-join c = size-same (c .before .before .before .before .before .before .before .before .args .image .now) (fits (c .before .before .before .before .before .before .before .before .args .image .now) (sym (c .before .before .before .before .before .file-no .ensures) ∙ c .before .before .before .before .if1 .left)) _ (c .before .before .before .sketch-in .ensures) _ (c .before .before .bytes-of .ensures)
+slice-aggregate-join c =
+    let at-bytes-of = c .before .before in
+    let at-sketch-in = at-bytes-of .before in
+    let at-if1 = at-sketch-in .before in
+    let at-file-no = at-if1 .before in
+    let m = at-file-no .before .before .before in
+    size-same (m .args .image .now) (fits (m .args .image .now) (sym (at-file-no .file-no .ensures) ∙ at-if1 .if1 .left)) _ (at-sketch-in .sketch-in .ensures) _ (at-bytes-of .bytes-of .ensures)
 
 slice-aggregate-join-2 : tie.Need-slice-aggregate-join-2
 slice-aggregate-join-2 c = search needs
@@ -32,13 +44,24 @@ slice-aggregate-join-3 : tie.Need-slice-aggregate-join-3
 slice-aggregate-join-3 c = search needs
 
 join-requires : tie.Need-join-requires
-join-requires c κs = lent (c .before .before .before .before .before .before .before .before .before .before .args .image .now) (fits (c .before .before .before .before .before .before .before .before .before .before .args .image .now) (sym (c .before .before .before .before .before .before .before .file-no .ensures) ∙ c .before .before .before .before .before .before .if1 .left)) _ (c .before .before .before .before .before .sketch-in .ensures) _ (c .before .before .before .before .bytes-of .ensures)
+join-requires c κs =
+    let at-bytes-of = c .before .before .before .before in
+    let at-sketch-in = at-bytes-of .before in
+    let at-if1 = at-sketch-in .before in
+    let at-file-no = at-if1 .before in
+    let m = at-file-no .before .before .before in
+    lent (m .args .image .now) (fits (m .args .image .now) (sym (at-file-no .file-no .ensures) ∙ at-if1 .if1 .left)) _ (at-sketch-in .sketch-in .ensures) _ (at-bytes-of .bytes-of .ensures)
 
 same-length : tie.Need-same-length
 same-length c = search needs
 
 returns-2 : tie.Need-returns-2
-returns-2 c = c .before .before .before .before .before .join .ensures ∙ take-joined (c .before .before .before .before .before .before .before .before .before .before .before .before .before .before .before .before .args .target) (c .before .before .before .before .before .before .before .before .before .before .before .before .before .before .before .before .args .tregs .now) (c .before .before .before .before .before .before .before .before .before .before .before .before .before .before .before .before .args .image .now) (sym (c .before .before .before .before .before .before .before .before .before .before .before .before .before .file-no .ensures) ∙ c .before .before .before .before .before .before .before .before .before .before .before .before .if1 .left)
+returns-2 c =
+    let at-join = c .before .before .before .before .before in
+    let at-if1 = at-join .before .before .before .before .before .before .before in
+    let at-file-no = at-if1 .before in
+    let m = at-file-no .before .before .before in
+    at-join .join .ensures ∙ take-joined (m .args .target) (m .args .tregs .now) (m .args .image .now) (sym (at-file-no .file-no .ensures) ∙ at-if1 .if1 .left)
 
 pub take-spec : {M : Type 1} → statement M
 take-spec =

@@ -18,7 +18,12 @@ same-length : tie.Need-same-length
 same-length c = search needs
 
 returns-2 : tie.Need-returns-2
-returns-2 c = record { bytes = bytes-take (c .before .before .before .before .before .before .before .before .args .got .n) (c .before .before .before .before .before .before .before .before .args .image .now) (λ i. c .before .before .before .before .before .before .shared-slice-known .given i .fits); is = rw (c .before .before .before .before .before .if1 .left) (c .before .before .take .ensures) }
+returns-2 c =
+    let at-take = c .before .before in
+    let at-if1 = at-take .before .before .before in
+    let at-shared-slice-known = at-if1 .before in
+    let m = at-shared-slice-known .before .before in
+    record { bytes = bytes-take (m .args .got .n) (m .args .image .now) (λ i. at-shared-slice-known .shared-slice-known .given i .fits); is = rw (at-if1 .if1 .left) (at-take .take .ensures) }
 
 pub take-got-spec : {M : Type 1} → statement M
 take-got-spec = tie.close (tie.spec returns slice-aggregate-take take-requires same-length returns-2)
