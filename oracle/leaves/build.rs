@@ -1,4 +1,4 @@
-//! Links the archive that `rt staticlib leaf_c` writes at the repository's top.
+//! Links the archive that `rt staticlib c_leaves` writes at the repository's top.
 
 use std::env;
 use std::path::PathBuf;
@@ -6,10 +6,10 @@ use std::path::PathBuf;
 fn main() {
     let leaves = PathBuf::from(env::var("CARGO_MANIFEST_DIR").unwrap());
     let folder = leaves.join("../../target/staticlib");
-    let archive = folder.join("libleaf_c.a");
+    let archive = folder.join("libc_leaves.a");
     println!("cargo:rerun-if-changed=build.rs");
     println!("cargo:rerun-if-changed={}", archive.display());
-    assert!(archive.is_file(), "no libleaf_c.a: run `rt staticlib leaf_c` at the top");
+    assert!(archive.is_file(), "no libc_leaves.a: run `rt staticlib c_leaves` at the top");
     println!("cargo:rustc-link-search=native={}", folder.display());
-    println!("cargo:rustc-link-lib=static=leaf_c");
+    println!("cargo:rustc-link-lib=static=c_leaves");
 }

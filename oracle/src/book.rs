@@ -1,4 +1,4 @@
-//! The examples as a file of the crate `judged`, whose claim the proof checker computes: what the
+//! The examples as a file of the crate `model_cases`, whose claim the proof checker computes: what the
 //! Rust answers, beside what it was asked. Lists of numbers are written as one number in hex,
 //! lowest digit first, since the checker reads a long numeral faster than a long list.
 
@@ -20,7 +20,7 @@ pub fn book(n: u64, seed: u64) -> String {
 const HEAD: &str = "\
 -- Made by `oracle book`: requests, and what the Rust answers to them. `oracle/test` makes it again and compares.
 use mathlib.Core.List.{List, [], _∷_}
-use Rattle.judged.specs.Judge.{Case, Source, history, merged, opened, refused, source, words, bytes}
+use Rattle.model_cases.specs.Play.{Case, history, merged, opened, refused, source, words, bytes}
 ";
 
 fn case(request: &Request) -> Option<String> {

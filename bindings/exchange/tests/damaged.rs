@@ -6,7 +6,7 @@ use oracle::check::damage;
 use oracle::examples::{self, Random, listed, spread};
 use oracle::model::{Model, refusal};
 
-fn judged(image: &[u8]) -> u8 {
+fn opens_as(image: &[u8]) -> u8 {
     let wanted = refusal(image);
     match Sketch::from_bytes(image) {
         Ok(sketch) => {
@@ -28,10 +28,10 @@ fn refused_by_the_models_numbers() {
         let image = ours(kind, lg_k, &coupons).to_bytes();
         for image in [listed(&mut random, &image), spread(&mut random, &image), image] {
             for len in 0..=image.len() {
-                answers[judged(&image[..len]) as usize] += 1;
+                answers[opens_as(&image[..len]) as usize] += 1;
             }
             for _ in 0..1000 {
-                answers[judged(&damage(&mut random, &image)) as usize] += 1;
+                answers[opens_as(&damage(&mut random, &image)) as usize] += 1;
             }
         }
     }

@@ -115,7 +115,7 @@ fn counts_that_lie() {
 }
 
 /// What memory has to say, or what only a merge or a buffer does, is no answer to an image.
-fn judged(image: &[u8]) -> bool {
+fn opens(image: &[u8]) -> bool {
     match Sketch::from_bytes(image) {
         Ok(sketch) => {
             assert_eq!(Sketch::from_bytes(&sketch.to_bytes()), Ok(sketch));
@@ -135,11 +135,11 @@ fn damaged_anywhere() {
     let (mut opened, mut refused) = (0, 0);
     for kind in KINDS {
         let good = image(kind);
-        assert!(judged(&good));
+        assert!(opens(&good));
         for len in 0..good.len() {
             assert_eq!(Sketch::from_bytes(&good[..len]), Err(Refusal::Short));
         }
-        let mut count = |image: &[u8]| *if judged(image) { &mut opened } else { &mut refused } += 1;
+        let mut count = |image: &[u8]| *if opens(image) { &mut opened } else { &mut refused } += 1;
         for at in 0..good.len() {
             for byte in 0..=255 {
                 count(&with(kind, &[(at, byte)]));

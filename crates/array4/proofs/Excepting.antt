@@ -12,17 +12,17 @@ use borrow.Author.Tests.{ne-eqb, le-ltb, le-leb, lt-leb}
 use Rattle.model.specs.Pick.{pick}
 use Rattle.model.specs.Coupon.{word}
 use Rattle.model.specs.Packed.{slotAt, Put}
-use Rattle.model.specs.Table.{baseFor, sizeFor, tableSize, Kept, used, insert, add, laid, opened}
-use Rattle.model.specs.Four.{State, nibble, put4, added}
+use Rattle.model.specs.Table.{baseFor, sizeFor, tableSize, Kept, used, replace, insert, laid, opened}
+use Rattle.model.specs.Four.{State, nibble, put4, inserted}
 use Rattle.model.specs.Sketch.{sketchOf}
 use Rattle.model.specs.Calls.{stateOf}
 use Rattle.model.specs.declared.Sketch.{Sketch}
-use Rattle.model.proofs.Order.{length-insert}
-use Rattle.model.proofs.Adds.{size-base}
-use Rattle.model.proofs.Shape.{shape-size, size-some, size-shorter}
-use Rattle.model.proofs.Sizes.{Sized}
-use Rattle.model.proofs.Tables.{table-few, table-kept}
-use Rattle.model.proofs.Moves.{move-replace, move-insert, replace-used, added-used, added-size, opened-kept, opened-used}
+use Rattle.model.proofs.table.Order.{length-replace}
+use Rattle.model.proofs.table.Inserts.{size-base}
+use Rattle.model.proofs.table.Shape.{shape-size, size-some, size-shorter}
+use Rattle.model.proofs.table.Sizes.{Sized}
+use Rattle.model.proofs.four.Tables.{table-few, table-kept}
+use Rattle.model.proofs.four.Moves.{move-replace, move-insert, replace-used, inserted-used, inserted-size, opened-kept, opened-used}
 use Rattle.aux_map.specs.Search.{Replaceable}
 use Rattle.aux_map.specs.Grow.{over, Insertable, Inserted}
 use Rattle.aux_map.proofs.Bases.{based}
@@ -72,28 +72,28 @@ module _ {s : Sketch} {regs aux scratch : List ℕ} {i raw v : ℕ} (p : Placeab
         subst (λ (t : List ℕ). Replaceable t i v) (sym front)
         (replace-met (baseFor (s .«lg_k»)) low (a .regs) (a .table) (based (s .«lg_k») (omega (arith, h .low)) (omega (arith, h .high))) (omega (arith, ok .few)) (h .table) i (place-inside p) (was-high p f) v (p .small))
 
-    pub placed-replace : (top : List ℕ) → top ≡ insert (take size aux) (word i v) → length top ≡ length (take size aux)
+    pub placed-replace : (top : List ℕ) → top ≡ replace (take size aux) (word i v) → length top ≡ length (take size aux)
         → Placed (putOf s regs aux i v) true s regs aux s regs (top ++ drop size aux)
     unfolding put4
     placed-replace top et el =
         rw (le-ltb v (low + 15) k, le-leb (low + 15) (getD (a .regs) i 0) (was-high p f)) (
           refl,
           refl,
-          place-build p (s .«num_at_cur_min») (s .«aux_count») (insert (a .table) (word i v)) regs (top ++ drop size aux) (move-replace i v ok (h .table) (place-inside p) (p .rises) (p .small) (was-high p f))
+          place-build p (s .«num_at_cur_min») (s .«aux_count») (replace (a .table) (word i v)) regs (top ++ drop size aux) (move-replace i v ok (h .table) (place-inside p) (p .rises) (p .small) (was-high p f))
               (sym (ap (λ (b : Bool). pick b (s .«num_at_cur_min» - 1) (s .«num_at_cur_min»)) (ne-eqb raw 0 (omega arith)))) (h .counted ∙ sym (replace-used i v ok (h .table) (place-inside p) (p .rises) (p .small) (was-high p f))) refl
               (place-each p (λ j y. slotAt 4 regs j ≡ nibble low y) (sym (p .read) ∙ f ∙ omega arith) (λ j l n. h .slots j l))
-              (omega (arith, length-insert (a .table) (word i v), h .fits, same))
-              (area ∙ ap (λ (m : ℕ). laid m (insert (a .table) (word i v))) (sym same)),
+              (omega (arith, length-replace (a .table) (word i v), h .fits, same))
+              (area ∙ ap (λ (m : ℕ). laid m (replace (a .table) (word i v))) (sym same)),
         )
       where
         same : length (top ++ drop size aux) ≡ length aux
         same = length-front aux top size el
 
-        area : top ++ drop size aux ≡ laid (length aux) (insert (stateOf s regs aux .table) (word i v))
+        area : top ++ drop size aux ≡ laid (length aux) (replace (stateOf s regs aux .table) (word i v))
         area =
-            ap₂ _++_ (et ∙ ap (λ (t : List ℕ). insert t (word i v)) front)
-            (ap₂ drop (long ∙ sym (length-insert (a .table) (word i v))) (h .area))
-            ∙ over-laid (length aux) (a .table) (insert (a .table) (word i v)) (omega (arith, length-insert (a .table) (word i v))) (omega (arith, length-insert (a .table) (word i v), h .fits))
+            ap₂ _++_ (et ∙ ap (λ (t : List ℕ). replace t (word i v)) front)
+            (ap₂ drop (long ∙ sym (length-replace (a .table) (word i v))) (h .area))
+            ∙ over-laid (length aux) (a .table) (replace (a .table) (word i v)) (omega (arith, length-replace (a .table) (word i v))) (omega (arith, length-replace (a .table) (word i v), h .fits))
 
   -- ---- a new exception
   module _ (f : raw ≡ 15 → ⊥) (need : ℕ) (en : need ≡ sizeFor base (s .«aux_count» + 1)) where
@@ -130,33 +130,33 @@ module _ {s : Sketch} {regs aux scratch : List ℕ} {i raw v : ℕ} (p : Placeab
       pub placed-insert : (num : ℕ) (regs′ : List ℕ) → num ≡ pick (eqb raw 0) (s .«num_at_cur_min» - 1) (s .«num_at_cur_min») → Put 4 regs i 15 regs′
           → (r : ℕ) (aux′ scratch′ : List ℕ) → length aux′ ≡ length aux → Inserted aux scratch size (word i v) r aux′ scratch′
           → Placed (putOf s regs aux i v) true s regs aux (sketchOf (s .kind) (s .«lg_k») (s .«cur_min») num (s .«aux_count» + 1)) regs′ aux′
-      unfolding put4 added
+      unfolding put4 inserted
       placed-insert num regs′ e put r aux′ scratch′ el ins =
           rw (le-ltb v (low + 15) k, lt-leb (low + 15) (getD (a .regs) i 0) (was-low p f), le-leb (sizeFor (baseFor (s .«lg_k»)) (suc (used (a .table)))) (length aux) room′) (
             refl,
             refl,
             place-build p num (s .«aux_count» + 1) new regs′ aux′ (move-insert i v ok (h .table) (place-inside p) (p .rises) (p .small) (was-low p f) k) e
-                (omega (arith, h .counted, added-used i v ok (h .table) (place-inside p) (p .rises) (p .small) (was-low p f) k)) (put .long) (put-slots p 15 regs′ (omega arith) put)
+                (omega (arith, h .counted, inserted-used i v ok (h .table) (place-inside p) (p .rises) (p .small) (was-low p f) k)) (put .long) (put-slots p 15 regs′ (omega arith) put)
                 (omega (arith, el, new-size)) (area ∙ ap (λ (m : ℕ). laid m new) (sym el)),
           )
         where
           new : List ℕ
-          new = added (baseFor (s .«lg_k»)) (stateOf s regs aux .table) (word i v)
+          new = inserted (baseFor (s .«lg_k»)) (stateOf s regs aux .table) (word i v)
 
-          new-size : length (added (baseFor (s .«lg_k»)) (stateOf s regs aux .table) (word i v)) ≤ length aux
-          new-size = omega (arith, added-size i v ok (h .table) (place-inside p) (p .rises) (p .small) (was-low p f) k, need-is)
+          new-size : length (inserted (baseFor (s .«lg_k»)) (stateOf s regs aux .table) (word i v)) ≤ length aux
+          new-size = omega (arith, inserted-size i v ok (h .table) (place-inside p) (p .rises) (p .small) (was-low p f) k, need-is)
 
-          longer : length (stateOf s regs aux .table) ≤ length (added (baseFor (s .«lg_k»)) (stateOf s regs aux .table) (word i v))
+          longer : length (stateOf s regs aux .table) ≤ length (inserted (baseFor (s .«lg_k»)) (stateOf s regs aux .table) (word i v))
           longer =
               omega (
                 arith,
                 shape-size (h .table .shape),
                 size-shorter (baseFor (s .«lg_k»)) (used (a .table)) (suc (used (a .table))) (omega arith),
                 size-some (baseFor (s .«lg_k»)) (suc (used (a .table))) (omega arith),
-                added-size i v ok (h .table) (place-inside p) (p .rises) (p .small) (was-low p f) k,
+                inserted-size i v ok (h .table) (place-inside p) (p .rises) (p .small) (was-low p f) k,
               )
 
-          area : aux′ ≡ laid (length aux) (added (baseFor (s .«lg_k»)) (stateOf s regs aux .table) (word i v))
+          area : aux′ ≡ laid (length aux) (inserted (baseFor (s .«lg_k»)) (stateOf s regs aux .table) (word i v))
           area =
-              ins .table ∙ ap₂ (λ (t l : List ℕ). over (add t (word i v)) l) front′ (h .area)
-              ∙ over-laid (length aux) (a .table) (added (baseFor (s .«lg_k»)) (a .table) (word i v)) longer new-size
+              ins .table ∙ ap₂ (λ (t l : List ℕ). over (insert t (word i v)) l) front′ (h .area)
+              ∙ over-laid (length aux) (a .table) (inserted (baseFor (s .«lg_k»)) (a .table) (word i v)) longer new-size

@@ -11,8 +11,8 @@ use Rattle.model.specs.Steps.{Step, went, stopped, Ran, ran}
 use Rattle.model.specs.Four.{State, step4}
 use Rattle.model.specs.Calls.{Out, out, keptOut, stateOf, stepOf}
 use Rattle.model.specs.declared.Sketch.{Sketch}
-use Rattle.model.proofs.FirstLaws.{true-not-false}
-use Rattle.model.proofs.Steps.{plus, ran-begin, ran-went, ran-stop, ran-end}
+use Rattle.model.proofs.table.FirstLaws.{true-not-false}
+use Rattle.model.proofs.calls.Steps.{plus, ran-begin, ran-went, ran-stop, ran-end}
 use Rattle.array4.specs.Held.{Rests}
 use Rattle.array4.specs.Update.{Untouched, Resting, Stepped, Feedable}
 use Rattle.array4.proofs.Holding.{holds-state, good-rests, good-bytes, rests-kept}

@@ -8,7 +8,7 @@ use native.Mathlib.Decide.{ℕ-discrete}
 use lib.ListN.{getD}
 use Rattle.model.specs.Coupon.{slot, value}
 use Rattle.model.specs.Packed.{slotAt, Put}
-use Rattle.model.proofs.Packing.{put-same, put-other}
+use Rattle.model.proofs.packing.Packing.{put-same, put-other}
 use Rattle.array4.specs.Rise.{Freed}
 
 pub freed-none : (t : List ℕ) (v : ℕ) (before : List ℕ) → Freed t v 0 before before

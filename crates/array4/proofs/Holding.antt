@@ -12,13 +12,13 @@ use Rattle.model.specs.Four.{State, state, nibble, storedAt, registers4, valueA
 use Rattle.model.specs.Sketch.{sketchOf, recordOf, stored, areaOf, registers, tableIn, Tabled, Good}
 use Rattle.model.specs.Calls.{out, keptOut, stateOf}
 use Rattle.model.specs.declared.Sketch.{Sketch}
-use Rattle.model.proofs.Lowest.{least-le}
-use Rattle.model.proofs.Sizes.{Sized, sized, fours}
-use Rattle.model.proofs.Tables.{table-used, table-few, table-in}
-use Rattle.model.proofs.Stored.{stored-slots, stored-only}
-use Rattle.model.proofs.Reading.{read-back, getD-registers}
-use Rattle.model.proofs.Packing.{packed-bytes}
-use Rattle.model.proofs.FourLaws.{four-record, four-stored, four-table, four-registers, four-long, four-length}
+use Rattle.model.proofs.registers.Lowest.{least-le}
+use Rattle.model.proofs.table.Sizes.{Sized, sized, fours}
+use Rattle.model.proofs.four.Tables.{table-used, table-few, table-in}
+use Rattle.model.proofs.four.Stored.{stored-slots, stored-only}
+use Rattle.model.proofs.four.Reading.{read-back, getD-registers}
+use Rattle.model.proofs.packing.Packing.{packed-bytes}
+use Rattle.model.proofs.four.FourLaws.{four-record, four-stored, four-table, four-registers, four-long, four-length}
 use Rattle.aux_map.specs.Sizes.{Based, Sizable}
 use Rattle.aux_map.proofs.Bases.{based}
 use Rattle.array4.specs.Held.{Holds, Held, Rests}

@@ -12,8 +12,8 @@ use lib.Seq.{getD-set-same, getD-set-other}
 use Rattle.model.specs.Pick.{pick}
 use Rattle.model.specs.Registers.{countOf}
 use Rattle.model.specs.Packed.{Bytes, slotAt, unpacked}
-use Rattle.model.proofs.Packing.{length-unpacked, getD-unpacked}
-use Rattle.model.proofs.Counting.{marks, marks-le, marks-same, count-marks}
+use Rattle.model.proofs.packing.Packing.{length-unpacked, getD-unpacked}
+use Rattle.model.proofs.table.Counting.{marks, marks-le, marks-same, count-marks}
 use Rattle.packed.proofs.Cells.{get-one}
 use Rattle.array4.specs.Rise.{lowered, loweredByte, Above, Lowerable, Lowered}
 

@@ -17,11 +17,11 @@ use Rattle.model.specs.Four.{State, state, TableAt, nibble, put4}
 use Rattle.model.specs.Sketch.{sketchOf}
 use Rattle.model.specs.Calls.{stateOf}
 use Rattle.model.specs.declared.Sketch.{Sketch}
-use Rattle.model.proofs.Packing.{put-same, put-other}
-use Rattle.model.proofs.Lowest.{count-left, count-same}
-use Rattle.model.proofs.Raised.{raise-up}
-use Rattle.model.proofs.Sizes.{Sized}
-use Rattle.model.proofs.Moves.{move-plain}
+use Rattle.model.proofs.packing.Packing.{put-same, put-other}
+use Rattle.model.proofs.registers.Lowest.{count-left, count-same}
+use Rattle.model.proofs.four.Raised.{raise-up}
+use Rattle.model.proofs.table.Sizes.{Sized}
+use Rattle.model.proofs.four.Moves.{move-plain}
 use Rattle.array4.specs.Held.{Holds}
 use Rattle.array4.specs.Update.{Placeable, Placed, putOf}
 use Rattle.array4.proofs.Holding.{holds-sized}

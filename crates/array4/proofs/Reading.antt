@@ -14,7 +14,7 @@ use Rattle.model.specs.Table.{baseFor, tableSize, Room, wordAt}
 use Rattle.model.specs.Four.{valueAt}
 use Rattle.model.specs.Sketch.{tableIn}
 use Rattle.model.specs.declared.Sketch.{Sketch}
-use Rattle.model.proofs.FourLaws.{four-table}
+use Rattle.model.proofs.four.FourLaws.{four-table}
 use Rattle.aux_map.specs.Sizes.{Sizable}
 use Rattle.aux_map.specs.Search.{gets}
 use Rattle.aux_map.specs.declared.Got.the-variants.{Value, Missing}

@@ -7,18 +7,18 @@ use native.Mathlib.Omega.{arith}
 use native.Mathlib.Decide.{ℕ-discrete, decLt}
 use lib.ListN.{length, getD, take}
 use lib.Seq.{length-take-le}
-use Rattle.model.specs.Coupon.{slot, value, word}
+use Rattle.model.specs.Coupon.{slot, value}
 use Rattle.model.specs.Packed.{slotAt}
 use Rattle.model.specs.Table.{baseFor, tableSize, Kept, used, keeps, made, laid}
 use Rattle.model.specs.Four.{State, nibble, risen}
 use Rattle.model.specs.Sketch.{sketchOf}
 use Rattle.model.specs.declared.Sketch.{Sketch}
-use Rattle.model.proofs.Search.{slot-of-word, value-of-word}
-use Rattle.model.proofs.Refill.{used-zeros}
-use Rattle.model.proofs.Keeps.{keeps-few}
-use Rattle.model.proofs.Shape.{shape-size}
-use Rattle.model.proofs.Made.{made-used}
-use Rattle.model.proofs.Tables.{table-few, rise-words}
+use Rattle.model.proofs.table.Search.{slot-of-word, value-of-word}
+use Rattle.model.proofs.table.Refill.{used-zeros}
+use Rattle.model.proofs.table.Sifted.{keeps-few}
+use Rattle.model.proofs.table.Shape.{shape-size}
+use Rattle.model.proofs.table.Made.{made-used}
+use Rattle.model.proofs.four.Tables.{table-few, rise-words}
 use Rattle.aux_map.proofs.Bases.{based}
 use Rattle.aux_table.specs.Build.{Rebuildable, Rebuilt}
 use Rattle.aux_table.proofs.Requires.{rebuild-met}

@@ -12,21 +12,22 @@ use borrow.Author.Tests.{lt-ltb, le-ltb}
 use Rattle.model.specs.Coupon.{word}
 use Rattle.model.specs.Registers.{least, countOf}
 use Rattle.model.specs.Packed.{slotAt, unpacked}
-use Rattle.model.specs.Table.{baseFor, Member, Kept, used, keeps, laid}
+use Rattle.model.specs.Table.{baseFor, Member, Kept, used, laid, made}
 use Rattle.model.specs.Four.{State, state, nibble, risen}
 use Rattle.model.specs.Sketch.{sketchOf}
 use Rattle.model.specs.declared.Sketch.{Sketch}
-use Rattle.model.proofs.Tells.{tells-one, tells-as, tells-eq}
-use Rattle.model.proofs.Members.{member-none}
-use Rattle.model.proofs.Refill.{used-zeros}
-use Rattle.model.proofs.Packing.{length-unpacked, getD-unpacked}
-use Rattle.model.proofs.Sizes.{Sized}
-use Rattle.model.proofs.Counting.{marks, marks-same, count-marks}
-use Rattle.model.proofs.Lowest.{least-le, least-most, below-least}
-use Rattle.model.proofs.Tables.{table-rise, rise-shorter}
+use Rattle.model.proofs.order.Tells.{tells-one, tells-as, tells-eq}
+use Rattle.model.proofs.table.Members.{member-none}
+use Rattle.model.proofs.table.Refill.{used-zeros}
+use Rattle.model.proofs.packing.Packing.{length-unpacked, getD-unpacked}
+use Rattle.model.proofs.table.Sizes.{Sized}
+use Rattle.model.proofs.table.Counting.{marks, marks-same, count-marks}
+use Rattle.model.proofs.registers.Lowest.{least-le, least-most, below-least}
+use Rattle.model.proofs.four.Tables.{table-rise, rise-shorter}
 use Rattle.array4.specs.Held.{Holds}
 use Rattle.array4.specs.Rise.{lowered, Lowerable, Lowered, Rose}
 use Rattle.array4.proofs.Holding.{holds-sized}
+use Rattle.model.proofs.table.Sifted.{sifted-none}
 
 -- ---- a nibble, lowered
 pub low-nibble : (low v : ℕ) → low < v → v < low + 15 → lowered (nibble low v) ≡ nibble (suc low) v
@@ -106,7 +107,7 @@ module _ {lgk : ℕ} {a : State} {s : Sketch} {regs aux : List ℕ} (h : Holds l
 
     -- no exceptions
     pub rose-plain : s .«aux_count» ≡ 0 → Rose lgk (s .«cur_min») a (sketchOf (s .kind) (s .«lg_k») (s .«cur_min» + 1) num 0) mid aux
-    unfolding risen keeps
+    unfolding risen
     rose-plain z =
         rise-build 0 mid aux (sym (ap used none′ ∙ used-zeros 0)) (l .long) (λ i k. mid-slot i k ∙ low-nibble (s .«cur_min») (getD (a .regs) i 0) (rise-floor i k) (plain i k)) refl (h .area ∙ ap (laid (length aux)) (empty ∙ sym none′))
       where
@@ -118,7 +119,7 @@ module _ {lgk : ℕ} {a : State} {s : Sketch} {regs aux : List ℕ} (h : Holds l
             go (inr k) = absurd (omega (arith, k .0, h .counted))
 
         none′ : risen (baseFor lgk) (suc (s .«cur_min»)) (a .table) ≡ []
-        none′ = ap (risen (baseFor lgk) (suc (s .«cur_min»))) empty
+        none′ = ap (risen (baseFor lgk) (suc (s .«cur_min»))) empty ∙ ap (made (baseFor lgk)) (sifted-none _)
 
         plain : (i : ℕ) → i < length (a .regs) → getD (a .regs) i 0 < s .«cur_min» + 15
         plain i k = go (decLt (getD (a .regs) i 0) (s .«cur_min» + 15))

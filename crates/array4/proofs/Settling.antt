@@ -8,8 +8,8 @@ use Rattle.model.specs.Table.{baseFor}
 use Rattle.model.specs.Four.{State, settled, risen}
 use Rattle.model.specs.Calls.{stateOf}
 use Rattle.model.specs.declared.Sketch.{Sketch}
-use Rattle.model.proofs.Lowest.{at-least}
-use Rattle.model.proofs.Stepping.{settled-stay, settled-rise}
+use Rattle.model.proofs.registers.Lowest.{at-least}
+use Rattle.model.proofs.four.Stepping.{settled-stay, settled-rise}
 use Rattle.array4.specs.Held.{Holds, Held, Rests}
 use Rattle.array4.specs.Rise.{Rose, settledOf}
 use Rattle.array4.proofs.Holding.{holds-sized, holds-state}

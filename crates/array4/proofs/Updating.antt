@@ -17,9 +17,9 @@ use Rattle.model.specs.Four.{State, valueAt, put4, step4, settled}
 use Rattle.model.specs.Sketch.{tableIn}
 use Rattle.model.specs.Calls.{stateOf}
 use Rattle.model.specs.declared.Sketch.{Sketch}
-use Rattle.model.proofs.FirstLaws.{true-not-false}
-use Rattle.model.proofs.Packing.{slot-lt}
-use Rattle.model.proofs.Shape.{shape-size}
+use Rattle.model.proofs.table.FirstLaws.{true-not-false}
+use Rattle.model.proofs.packing.Packing.{slot-lt}
+use Rattle.model.proofs.table.Shape.{shape-size}
 use Rattle.aux_map.proofs.Bases.{based}
 use Rattle.aux_table.proofs.Requires.{find-met}
 use Rattle.array4.specs.Held.{Holds, Held, Rests}

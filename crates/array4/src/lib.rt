@@ -1,15 +1,14 @@
 // Kind 4's feeding, after array4.rs: a register is a nibble above cur_min, and one that a nibble can't hold stands in the exception table.
 use aux_map::Got;
-use aux_map::SLOTS;
 use model::Sketch;
+use packed::eight::one_if;
 use packed::four::get_raw;
 use packed::four::put_raw;
 ghost use mathlib.Core.Path.{_≡_};
-ghost use Prim.Native.Nat.{_-_, _^_, _≤_, _<_};
+ghost use Prim.Native.Nat.{_-_, _<_};
 ghost use lib.Dec.{eqb, ltb};
 ghost use lib.ListN.{length};
 ghost use Rattle.model.specs.Pick.{pick};
-ghost use Rattle.model.specs.Coupon.{value, home};
 ghost use Rattle.model.specs.Table.{baseFor};
 ghost use Rattle.model.specs.Steps.{ran};
 ghost use Rattle.model.specs.Four.{valueAt, step4};
@@ -39,21 +38,6 @@ fn old_value(s: Sketch, aux: &[u32], slot: u32, raw: u8) -> u8
         Got::Value(v) => v,
         Got::Missing => 0,
     }
-}
-
-fn value_of(coupon: u32) -> u8
-    ensures { λ r. ⌜ (r ≡ value coupon) × (r < 64) ⌝ }
-{
-    (coupon / SLOTS) as u8
-}
-
-// The remainder by the number of registers, as a mask.
-fn slot_of(coupon: u32, lg_k: u8) -> u32
-    requires { ⌜ «lg_k» ≤ 21 ⌝ }
-    ensures { λ r. ⌜ (r ≡ home (2 ^ «lg_k») coupon) × (r < 2 ^ «lg_k») ⌝ }
-{
-    let mask = (1u32 << lg_k) - 1;
-    coupon % SLOTS & mask
 }
 
 // How many registers are at cur_min once one whose nibble was `raw` has left.
@@ -121,7 +105,7 @@ fn place(
         scratch,
         size,
         count as usize,
-        value as u32 * SLOTS + slot,
+        coupon::word(slot, value),
     );
     Updated {
         took: true,
@@ -140,14 +124,14 @@ fn update(s: Sketch, regs: &mut [u8], aux: &mut [u32], scratch: &mut [u32], coup
     requires { ⌜ Resting s (now regs) (now aux) (now scratch) ⌝ }
     ensures { λ r. ⌜ Stepped (step4 (baseFor (s .«lg_k»)) (length (now (aux .entry))) (stateOf s (now (regs .entry)) (now (aux .entry))) coupon) (r .took) s (now (regs .entry)) (now (aux .entry)) (r .sketch) (now (regs .exit)) (now (aux .exit)) ⌝ }
 {
-    let value = value_of(coupon);
+    let value = coupon::value(coupon);
     if value <= s.cur_min {
         return Updated {
             took: true,
             sketch: s,
         };
     }
-    let slot = slot_of(coupon, s.lg_k);
+    let slot = coupon::home(s.lg_k, coupon);
     let raw = get_raw(regs, slot);
     if value <= raw + s.cur_min {
         return Updated {
@@ -188,13 +172,6 @@ fn lower_byte(byte: u8) -> u8
     byte - less(byte % 16) - less(byte >> 4) * 16
 }
 
-// Whether a nibble is zero, as a number to add.
-fn zero(nibble: u8) -> u32
-    ensures { λ r. ⌜ r ≡ pick (eqb nibble 0) 1 0 ⌝ }
-{
-    if nibble == 0 { 1 } else { 0 }
-}
-
 // Every nibble lowered, two at a time. The answer is how many are then zero.
 fn lower(regs: &mut [u8]) -> u32
     requires { ⌜ Lowerable (now regs) ⌝ }
@@ -205,22 +182,22 @@ fn lower(regs: &mut [u8]) -> u32
     while at < regs.len() {
         let byte = lower_byte(regs[at]);
         regs[at] = byte;
-        n += zero(byte % 16) + zero(byte >> 4);
+        n += (one_if(byte % 16, 0) + one_if(byte >> 4, 0)) as u32;
         at += 1;
     }
     n
 }
 
 // The slots of the table's words of that value: a nibble holds it now.
-fn free(table: &[u32], regs: &mut [u8], value: u32)
+fn free(table: &[u32], regs: &mut [u8], value: u8)
     requires { ⌜ Freeable (now table) value (now regs) ⌝ }
     ensures { λ _. ⌜ Freed (now (table .entry)) value (length (now (table .entry))) (now (regs .entry)) (now (regs .exit)) ⌝ }
 {
     let mut i = 0;
     while i < table.len() {
         let w = table[i];
-        if w / SLOTS == value {
-            put_raw(regs, w % SLOTS, 14);
+        if coupon::value(w) == value {
+            put_raw(regs, coupon::slot(w), 14);
         }
         i += 1;
     }
@@ -249,7 +226,7 @@ fn shift_to_bigger_cur_min(
     }
     let base = aux_map::base_for(s.lg_k);
     let size = aux_map::table_size(base, s.aux_count as usize);
-    free(&aux[..size], regs, low as u32 + 15);
+    free(&aux[..size], regs, low + AUX_TOKEN);
     let left = aux_table::rebuild(aux, scratch, base, size, low as u32 + 16);
     Sketch {
         kind: s.kind,

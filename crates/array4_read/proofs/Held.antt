@@ -13,11 +13,11 @@ use Rattle.model.specs.Table.{Room, baseFor, tableSize, wordAt, used}
 use Rattle.model.specs.Four.{TableAt, nibble}
 use Rattle.model.specs.Sketch.{tableIn, registers, Good}
 use Rattle.model.specs.declared.Sketch.{Sketch}
-use Rattle.model.proofs.Lowest.{least-le, least-most}
-use Rattle.model.proofs.Search.{value-of-word}
-use Rattle.model.proofs.Tables.{table-few, table-word, word-some}
-use Rattle.model.proofs.FourLaws.{four-table, four-long}
-use Rattle.model.proofs.FourGood as book
+use Rattle.model.proofs.registers.Lowest.{least-le, least-most}
+use Rattle.model.proofs.table.Search.{value-of-word}
+use Rattle.model.proofs.four.Tables.{table-few, table-word, word-some}
+use Rattle.model.proofs.four.FourLaws.{four-table, four-long}
+use Rattle.model.proofs.four.FourGood as book
 use Rattle.aux_map.specs.declared.Got.the-variants.{Value}
 use Rattle.aux_map.specs.Search.{gets}
 use Rattle.aux_map.proofs.Bases.{based}

@@ -2,7 +2,7 @@
 use mathlib.Core.Path.{_≡_, sym, _∙_, ap, subst}
 use mathlib.Core.Bool.{Bool, false}
 use mathlib.Core.List.{List, []}
-use Prim.Native.Nat.{ℕ, _+_, _*_, _/_, _^_, _≤_, _<_}
+use Prim.Native.Nat.{ℕ, _+_, _*_, _^_, _≤_, _<_}
 use native.Mathlib.Omega.{arith}
 use lib.Dec.{leb}
 use lib.ListN.{length, getD, take}
@@ -15,10 +15,10 @@ use Rattle.model.specs.Table.{baseFor, tableSize, Reached, used}
 use Rattle.model.specs.Sketch.{cells, tableIn}
 use Rattle.model.specs.Check.{tableFits}
 use Rattle.model.specs.declared.Sketch.{Sketch}
-use Rattle.model.proofs.Packing.{getD-unpacked}
-use Rattle.model.proofs.Tells.{tells-one, tells-no, tells-as, tells-le}
-use Rattle.model.proofs.Tests.{cells-long, WordFits, TableFits, table-tells}
-use Rattle.model.proofs.FourLaws.{four-table, four-long}
+use Rattle.model.proofs.packing.Packing.{getD-unpacked}
+use Rattle.model.proofs.order.Tells.{tells-one, tells-no, tells-as, tells-le}
+use Rattle.model.proofs.order.Tests.{cells-long, WordFits, TableFits, table-tells}
+use Rattle.model.proofs.four.FourLaws.{four-table, four-long}
 use Rattle.aux_map.specs.Sizes.{Based}
 use Rattle.aux_map.proofs.Bases.{based}
 use Rattle.aux_table.specs.Check.{Ordered}
@@ -26,8 +26,8 @@ use Rattle.array4_read.specs.Asks.{Checkable, Tabulated}
 use Rattle.array4_read.specs.Fits.{Few, WordIn, WordsIn}
 
 -- a word's value that is high enough, as the code takes it
-pub high-tells : (low w : ℕ) → w < 2 ^ 32 → Tells (leb (low + 15) (w / 67108864)) (low + 15 ≤ value w)
-high-tells low w h = tells-as _ (λ e. omega arith) (λ e. omega arith) (tells-le (low + 15) (w / 67108864))
+pub high-tells : (low w v : ℕ) → v ≡ value w → Tells (leb (low + 15) v) (low + 15 ≤ value w)
+high-tells low w v is = tells-as _ (λ e. omega arith) (λ e. omega arith) (tells-le (low + 15) v)
 
 module _ (s : Sketch) (regs : List ℕ) {tokens : ℕ} (ask : Checkable s regs tokens) where
   abbrev size : ℕ

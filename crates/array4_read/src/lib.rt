@@ -1,6 +1,5 @@
 // What only reads kind 4, after array4.rs: one register, and the check of the exception table.
 use aux_map::Got;
-use aux_map::SLOTS;
 use model::Sketch;
 ghost use mathlib.Core.Path.{_≡_};
 ghost use lib.ListN.{getD};
@@ -25,7 +24,7 @@ fn word_fits(low: u8, regs: &[u8], w: u32) -> bool
     requires { ⌜ Few (now regs) ⌝ }
     ensures { λ r. ⌜ Tells r (WordIn low (now (regs .entry)) w) ⌝ }
 {
-    let slot = w % SLOTS;
+    let slot = coupon::slot(w);
     if 2 * regs.len() <= slot as usize {
         return false;
     }
@@ -33,7 +32,7 @@ fn word_fits(low: u8, regs: &[u8], w: u32) -> bool
     if raw != 15 {
         return false;
     }
-    low as u32 + 15 <= w / SLOTS
+    low as u32 + 15 <= coupon::value(w) as u32
 }
 
 // Each word once.

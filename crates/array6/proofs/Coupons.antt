@@ -9,11 +9,11 @@ use Rattle.model.specs.Coupon.{value, home}
 use Rattle.model.specs.Registers.{fed, countOf}
 use Rattle.model.specs.Packed.{Bytes, slotAt, unpacked, packed, Put}
 use Rattle.model.specs.Sketch.{Shaped}
-use Rattle.model.proofs.Packing.{length-unpacked, getD-unpacked, put-none, put-raised, put-spare, spare, packed-unpacked}
-use Rattle.model.proofs.Lowest.{count-left, count-same}
+use Rattle.model.proofs.packing.Packing.{length-unpacked, getD-unpacked, put-none, put-raised, put-spare, spare, packed-unpacked}
+use Rattle.model.proofs.registers.Lowest.{count-left, count-same}
 use Rattle.packed.specs.Room.{Room6}
 use Rattle.packed.proofs.Rooms.{room-6}
-use Rattle.array8.proofs.Masks.{home-in}
+use Rattle.coupon.proofs.Masks.{home-in}
 use Rattle.array6.specs.Asked.{Counted6, Ready6}
 use Rattle.array6.specs.Given.{Taken6}
 

@@ -19,8 +19,8 @@ pub fn update(lg_k: u8, num_zeros: u32, regs: &mut [u8], coupon: u32) -> u32
     requires { ⌜ Counted6 «lg_k» «num_zeros» (now regs) ⌝ }
     ensures { λ r. ⌜ Taken6 «lg_k» (now (regs .entry)) coupon (now (regs .exit)) r ⌝ }
 {
-    let slot = array8::coupon::home(lg_k, coupon);
-    let new_value = array8::coupon::value(coupon);
+    let slot = coupon::home(lg_k, coupon);
+    let new_value = coupon::value(coupon);
     let old_value = get(regs, slot);
     if new_value <= old_value {
         return num_zeros;

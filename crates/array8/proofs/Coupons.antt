@@ -6,11 +6,11 @@ use native.Mathlib.Omega.{arith}
 use lib.ListN.{length, getD, set}
 use Rattle.model.specs.Coupon.{value, home}
 use Rattle.model.specs.Registers.{raise, fed, countOf}
-use Rattle.model.proofs.Raised.{raise-up, raise-not}
-use Rattle.model.proofs.Lowest.{count-left, count-same}
+use Rattle.model.proofs.four.Raised.{raise-up, raise-not}
+use Rattle.model.proofs.registers.Lowest.{count-left, count-same}
+use Rattle.coupon.proofs.Masks.{home-in}
 use Rattle.array8.specs.Asked.{Ready}
 use Rattle.array8.specs.Given.{Fed}
-use Rattle.array8.proofs.Masks.{home-in}
 
 pub home-inside : {lgk zeros : ℕ} {R : List ℕ} → Ready lgk zeros R → (c : ℕ) {s : ℕ} → s ≡ home (2 ^ lgk) c → s < length R
 home-inside {lgk} ready c at = rw (at, ready .long) (home-in lgk c)

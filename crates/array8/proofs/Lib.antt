@@ -1,4 +1,3 @@
 pub mod Masks
-pub mod Turns
 pub mod Coupons
 pub mod Eight

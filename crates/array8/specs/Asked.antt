@@ -23,11 +23,6 @@ pub record Blocked (k from n : ℕ) : Type 0 where
   pub target : Power k
   pub inside : from % k + n ≤ k
 
--- a sketch of this kind, and register bytes as many as its lg_k asks
-pub record Lent (kind : ℕ) (s : Sketch) (regs : List ℕ) : Type 0 where
-  pub of-kind : s .kind ≡ kind
-  pub shaped : Shaped kind (s .«lg_k») (length regs)
-
 -- 2 ^ lgk registers, and how many of them are zero
 pub record Ready (lgk zeros : ℕ) (regs : List ℕ) : Type 0 where
   pub low : 4 ≤ lgk

@@ -1,15 +1,14 @@
 // Kind 8, after array8.rs: a byte a register, in the bytes that the caller lends. Nothing here judges what it is lent: the functions ask for
 // registers that fit, and the public calls have looked.
+use packed::eight::larger;
 ghost use mathlib.Core.Path.{_≡_};
 ghost use mathlib.Core.List.{[], _∷_};
-ghost use Prim.Native.Nat.{max, _%_, _^_, _≤_, _<_};
+ghost use Prim.Native.Nat.{_%_, _<_};
 ghost use lib.ListN.{length, getD};
 ghost use Rattle.model.specs.Registers as book;
 ghost use Rattle.model.specs.Registers.{fed, poured, joined};
 ghost use Rattle.array8.specs.Asked.{Power, Finer, Blocked, Ready};
 ghost use Rattle.array8.specs.Given.{Fed};
-
-pub mod coupon;
 
 pub fn get(regs: &[u8], slot: u32) -> u8
     requires { ⌜ slot < length (now regs) ⌝ }
@@ -41,11 +40,10 @@ pub fn feed(lg_k: u8, num_zeros: u32, regs: &mut [u8], coupons: &[u32]) -> u32
     ensures { λ r. ⌜ Fed «lg_k» (now (regs .entry)) (now (coupons .entry)) (now (regs .exit)) r ⌝ }
 {
     let mut zeros = num_zeros;
-    let first = 0;
-    let mut i = first;
-    while i < coupons.len() {
-        zeros = update(lg_k, zeros, regs, coupons[i]);
-        i += 1;
+    let mut turn = 0;
+    while turn < coupons.len() {
+        zeros = update(lg_k, zeros, regs, coupons[turn]);
+        turn += 1;
     }
     zeros
 }
@@ -55,20 +53,6 @@ pub fn values(regs: &[u8]) -> &[u8]
     ensures { λ r. ⌜ r ≡ regs .entry ⌝ }
 {
     regs
-}
-
-pub fn num_registers(lg_k: u8) -> usize
-    requires { ⌜ «lg_k» ≤ 21 ⌝ }
-    ensures { λ r. ⌜ r ≡ 2 ^ «lg_k» ⌝ }
-{
-    1usize << lg_k
-}
-
-// The compiler makes one instruction of it, so that a loop over it becomes vector code.
-pub fn larger(a: u8, b: u8) -> u8
-    ensures { λ r. ⌜ r ≡ max a b ⌝ }
-{
-    if a < b { b } else { a }
 }
 
 // A register of any source, whose slot may be past the target's last.
@@ -123,8 +107,7 @@ pub fn raise_words(target: &mut [u8], words: &[u32])
     requires { ⌜ Power (length (now target)) ⌝ }
     ensures { λ _. ⌜ now (target .exit) ≡ fed (length (now (target .entry))) (now (target .entry)) (now (words .entry)) ⌝ }
 {
-    let first = 0;
-    let mut at = first;
+    let mut at = 0;
     while at < words.len() {
         let word = words[at];
         raise(target, coupon::slot(word) as usize, coupon::value(word));

@@ -2,7 +2,7 @@
 use mathlib.Core.Path.{_≡_, refl, sym, _∙_, ap, subst}
 use mathlib.Core.Bool.{Bool, true, false}
 use mathlib.Core.List.{List}
-use Prim.Native.Nat.{ℕ, _/_, _^_, _<_}
+use Prim.Native.Nat.{ℕ, _<_}
 use lib.Dec.{eqb}
 use lib.ListN.{length, getD}
 use native.Mathlib.Omega.{arith}
@@ -10,14 +10,10 @@ use borrow.Author.Tests.{eq-eqb, ne-eqb, eqb-true, eqb-false}
 use Rattle.model.specs.Pick.{pick}
 use Rattle.model.specs.Coupon.{value}
 use Rattle.model.specs.Table.{Room, place, wordAt}
-use Rattle.model.proofs.Search.{place-lt}
+use Rattle.model.proofs.table.Search.{place-lt}
 use Rattle.aux_map.specs.declared.FindResult.the-variants.{Found, Empty}
 use Rattle.aux_map.specs.declared.Got.the-variants.{Value, Missing}
 use Rattle.aux_map.specs.Search.{finds, gets}
-
--- a word of 32 bits has no bits above its value
-pub value-whole : (w : ℕ) → w < 2 ^ 32 → w / 67108864 ≡ value w
-value-whole w h = omega arith
 
 module _ (t : List ℕ) (s i : ℕ) where
   pub finds-found : finds t s ≡ Found i → (i ≡ place t s) × (wordAt t s ≡ 0 → ⊥)
@@ -43,9 +39,9 @@ module _ (t : List ℕ) (s i : ℕ) where
   pub empty-lt : Room t → finds t s ≡ Empty i → i < length t
   empty-lt r e = subst (λ (p : ℕ). p < length t) (sym (finds-empty e .0)) (place-lt t s r)
 
-  pub gets-found : getD t i 0 < 2 ^ 32 → finds t s ≡ Found i → Value (getD t i 0 / 67108864) ≡ gets t s
+  pub gets-found : (v : ℕ) → v ≡ value (getD t i 0) → finds t s ≡ Found i → Value v ≡ gets t s
   unfolding gets wordAt
-  gets-found h e = let (q, n) = finds-found e in ap Value (value-whole (getD t i 0) h) ∙ rw (q, ne-eqb (getD t (place t s) 0) 0 n)
+  gets-found v is e = let (q, n) = finds-found e in ap Value is ∙ rw (q, ne-eqb (getD t (place t s) 0) 0 n)
 
   pub gets-empty : finds t s ≡ Empty i → Missing ≡ gets t s
   unfolding gets

@@ -8,7 +8,7 @@ use lib.ListN.{getD}
 use lib.Pow.{pow-mono}
 use Rattle.model.specs.Pick.{pick, both, all}
 use Rattle.model.specs.Table.{bases, baseFor}
-use Rattle.model.proofs.Tells.{tells-all, tells-both, tells-if, tells-le, tells-lt}
+use Rattle.model.proofs.order.Tells.{tells-all, tells-both, tells-if, tells-le, tells-lt}
 use Rattle.aux_map.specs.Sizes.{Listed, Based, Sizable}
 
 rule : (k : ℕ) → k < 27 → (getD bases k 0 ≤ 18) × (0 < k → 2 ≤ getD bases k 0)

@@ -10,7 +10,7 @@ use lib.Seq.{length-take-le, take-at}
 use borrow.Author.Tests.{le-leb, lt-leb}
 use Rattle.model.specs.Pick.{pick}
 use Rattle.model.specs.Table.{used, grown}
-use Rattle.model.proofs.Grown.{length-grown}
+use Rattle.model.proofs.table.Grown.{length-grown}
 use Rattle.aux_map.specs.Grow.{checked, scratched, Doubled, Growable, Grew}
 
 -- a table is not shorter afterwards

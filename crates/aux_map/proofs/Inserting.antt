@@ -6,19 +6,19 @@ use native.Mathlib.Omega.{arith}
 use lib.ListN.{length, set, take, length-set}
 use lib.Seq.{length-take-le, take-set-lt, drop-set-lt}
 use Rattle.model.specs.Coupon.{slot}
-use Rattle.model.specs.Table.{Room, used, insert, add}
-use Rattle.model.proofs.Refill.{room-of}
-use Rattle.model.proofs.Order.{length-insert}
-use Rattle.model.proofs.Grown.{used-insert}
+use Rattle.model.specs.Table.{Room, used, replace, insert}
+use Rattle.model.proofs.table.Refill.{room-of}
+use Rattle.model.proofs.table.Order.{length-replace}
+use Rattle.model.proofs.table.Grown.{used-fresh}
 use Rattle.aux_map.specs.declared.FindResult.the-variants.{Found, Empty}
 use Rattle.aux_map.specs.Search.{finds}
 use Rattle.aux_map.specs.Grow.{over, checked, scratched, Growable, Grew, Insertable, Inserted}
 use Rattle.aux_map.proofs.Answers.{finds-found, finds-empty, empty-lt}
 use Rattle.aux_map.proofs.Growing.{checked-long}
 
-checked-insert : (t : List ℕ) (w : ℕ) → checked (insert t w) ≡ add t w
-unfolding checked add
-checked-insert t w = rw length-insert
+checked-replace : (t : List ℕ) (w : ℕ) → checked (replace t w) ≡ insert t w
+unfolding checked insert
+checked-replace t w = rw length-replace
 
 module _ (area scratch : List ℕ) (size count w : ℕ) (ok : Insertable area scratch size count w) where
   pub table-length : length (take size area) ≡ size
@@ -35,15 +35,15 @@ module _ (area scratch : List ℕ) (size count w : ℕ) (ok : Insertable area sc
     pub inside : p < size
     inside = omega (arith, empty-lt (take size area) (slot w) p room e, table-length)
 
-    stored : take size (set area p w) ≡ insert (take size area) w
-    unfolding insert
+    stored : take size (set area p w) ≡ replace (take size area) w
+    unfolding replace
     stored = take-set-lt size area p w inside ∙ ap (λ (k : ℕ). set (take size area) k w) (finds-empty (take size area) (slot w) p e .0)
 
     pub growable : Growable (set area p w) scratch size (count + 1)
     growable = record {
       lg = ok .lg;
       power = ok .power;
-      counted = ap used stored ∙ used-insert (take size area) w room (ok .some) (ok .absent) ∙ omega arith;
+      counted = ap used stored ∙ used-fresh (take size area) w room (ok .some) (ok .absent) ∙ omega arith;
       most = omega arith;
       fits = simp length-set (ok .fits);
       wider = simp length-set (ok .wider);
@@ -53,13 +53,13 @@ module _ (area scratch : List ℕ) (size count w : ℕ) (ok : Insertable area sc
     pub inserted : (r : ℕ) (area′ scratch′ : List ℕ) → Grew (set area p w) scratch size r area′ scratch′ → Inserted area scratch size w r area′ scratch′
     inserted r area′ scratch′ g = record {
       long = g .long ∙ ap length is;
-      table = g .table ∙ ap (λ (l : List ℕ). over l (set area p w)) is ∙ ap (λ (l : List ℕ). add (take size area) w ++ l) (drop-set-lt (length (add (take size area) w)) area p w past);
+      table = g .table ∙ ap (λ (l : List ℕ). over l (set area p w)) is ∙ ap (λ (l : List ℕ). insert (take size area) w ++ l) (drop-set-lt (length (insert (take size area) w)) area p w past);
       rest = g .rest ∙ ap (λ (l : List ℕ). scratched l scratch) stored;
     }
       where
-        is : checked (take size (set area p w)) ≡ add (take size area) w
-        is = ap checked stored ∙ checked-insert (take size area) w
+        is : checked (take size (set area p w)) ≡ insert (take size area) w
+        is = ap checked stored ∙ checked-replace (take size area) w
 
-        past : p < length (add (take size area) w)
+        past : p < length (insert (take size area) w)
         past =
-            omega (arith, inside, table-length, length-insert (take size area) w, checked-long (insert (take size area) w), ap length (checked-insert (take size area) w))
+            omega (arith, inside, table-length, length-replace (take size area) w, checked-long (replace (take size area) w), ap length (checked-replace (take size area) w))

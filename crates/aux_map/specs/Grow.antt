@@ -6,7 +6,7 @@ use lib.Dec.{leb}
 use lib.ListN.{length, take, drop}
 use Rattle.model.specs.Pick.{pick}
 use Rattle.model.specs.Coupon.{slot}
-use Rattle.model.specs.Table.{wordAt, used, insert, grown, add}
+use Rattle.model.specs.Table.{wordAt, used, replace, grown, insert}
 
 -- a table laid over the front of an area
 abbrev pub over : List ℕ → List ℕ → List ℕ
@@ -59,8 +59,8 @@ pub record Insertable (area scratch : List ℕ) (size count w : ℕ) : Type 0 wh
   pub wider : 3 * size < 4 * (count + 1) → size + size ≤ length area
   pub spared : 3 * size < 4 * (count + 1) → size ≤ length scratch
 
--- the word is added to that table, and r is its size
+-- the word is inserted into that table, and r is its size
 pub record Inserted (area scratch : List ℕ) (size w r : ℕ) (area′ scratch′ : List ℕ) : Type 0 where
-  pub long : r ≡ length (add (take size area) w)
-  pub table : area′ ≡ over (add (take size area) w) area
-  pub rest : scratch′ ≡ scratched (insert (take size area) w) scratch
+  pub long : r ≡ length (insert (take size area) w)
+  pub table : area′ ≡ over (insert (take size area) w) area
+  pub rest : scratch′ ≡ scratched (replace (take size area) w) scratch

@@ -3,13 +3,10 @@ ghost use mathlib.Core.Path.{_≡_};
 ghost use Prim.Native.Nat.{_/_, _%_};
 ghost use lib.ListN.{length, getD, replicate};
 ghost use Rattle.model.specs.Coupon.{word};
-ghost use Rattle.model.specs.Table.{bases, baseFor, sizeFor, tableSize, Room, place, insert, grown};
+ghost use Rattle.model.specs.Table.{bases, baseFor, sizeFor, tableSize, Room, place, replace, grown};
 ghost use Rattle.aux_map.specs.Sizes.{Listed, Power, Sizable};
 ghost use Rattle.aux_map.specs.Search.{finds, gets, Replaceable};
 ghost use Rattle.aux_map.specs.Grow.{SameLength, Doubled, Growable, Grew, Insertable, Inserted};
-
-// The slots that a word can name: its slot is the remainder by this, its value the quotient.
-pub const SLOTS: u32 = 67108864;
 
 const LG_AUX_ARR_INTS: [u8; 27] = [
     0,
@@ -107,7 +104,7 @@ pub fn probe(table: &[u32], slot: u32) -> usize
         if w == 0 {
             break at;
         }
-        if w % SLOTS == slot {
+        if coupon::slot(w) == slot {
             break at;
         }
         at = wrap(at + step, size);
@@ -144,7 +141,7 @@ pub fn get(table: &[u32], slot: u32) -> Got
     ensures { λ r. ⌜ r ≡ gets (now (table .entry)) slot ⌝ }
 {
     match find(table, slot) {
-        FindResult::Found(at) => Got::Value((table[at] / SLOTS) as u8),
+        FindResult::Found(at) => Got::Value(coupon::value(table[at])),
         FindResult::Empty(_) => Got::Missing,
     }
 }
@@ -152,10 +149,10 @@ pub fn get(table: &[u32], slot: u32) -> Got
 // Another value for a slot that the table has.
 pub fn replace(table: &mut [u32], slot: u32, value: u8)
     requires { ⌜ Replaceable (now table) slot value ⌝ }
-    ensures { λ _. ⌜ now (table .exit) ≡ insert (now (table .entry)) (word slot value) ⌝ }
+    ensures { λ _. ⌜ now (table .exit) ≡ replace (now (table .entry)) (word slot value) ⌝ }
 {
     match find(table, slot) {
-        FindResult::Found(at) => table[at] = value as u32 * SLOTS + slot,
+        FindResult::Found(at) => table[at] = coupon::word(slot, value),
         FindResult::Empty(_) => (),
     }
 }
@@ -193,7 +190,7 @@ fn grow(table: &[u32], into: &mut [u32])
     while i < table.len() {
         let w = table[i];
         if w != 0 {
-            let at = probe(into, w % SLOTS);
+            let at = probe(into, coupon::slot(w));
             into[at] = w;
         }
         i += 1;
@@ -219,7 +216,7 @@ pub fn insert(area: &mut [u32], scratch: &mut [u32], size: usize, count: usize, 
     requires { ⌜ Insertable (now area) (now scratch) size count w ⌝ }
     ensures { λ r. ⌜ Inserted (now (area .entry)) (now (scratch .entry)) size w r (now (area .exit)) (now (scratch .exit)) ⌝ }
 {
-    let FindResult::Empty(at) = find(&area[..size], w % SLOTS) else {
+    let FindResult::Empty(at) = find(&area[..size], coupon::slot(w)) else {
         return size;
     };
     area[at] = w;

@@ -12,21 +12,21 @@ use lib.Seq.{take-length, drop-append-add, drop-drop, drop-cons, getD-drop}
 use borrow.Author.Tests.{leb-false}
 use Rattle.model.specs.Pick.{pick}
 use Rattle.model.specs.Coupon.{slot}
-use Rattle.model.specs.Table.{Kept, wordAt, used, insert, add, adds, made, laid, sizeFor, tableSize}
-use Rattle.model.proofs.Refill.{used-zeros}
-use Rattle.model.proofs.Order.{length-insert}
-use Rattle.model.proofs.Grown.{zeros-none, zeros-good, used-insert}
-use Rattle.model.proofs.Added.{kept-size, kept-room, size-fits, size-doubles}
-use Rattle.model.proofs.Adds.{Addables, prefix, prefix-used, adds-more, size-mono, size-base, next-some, next-absent}
+use Rattle.model.specs.Table.{Kept, wordAt, used, replace, insert, inserts, made, laid, sizeFor, tableSize, Makable}
+use Rattle.model.proofs.table.Refill.{used-zeros}
+use Rattle.model.proofs.table.Order.{length-replace}
+use Rattle.model.proofs.table.Grown.{zeros-none, zeros-good, used-fresh}
+use Rattle.model.proofs.table.Inserted.{kept-size, kept-room, size-fits, size-doubles}
+use Rattle.model.proofs.table.Inserts.{Insertables, prefix, prefix-used, inserts-more, size-mono, size-base, next-some, next-absent}
 use Rattle.aux_map.specs.Sizes.{Based}
 use Rattle.aux_map.specs.Grow.{over, scratched, Insertable, Inserted}
-use Rattle.aux_table.specs.Build.{Words, Buildable}
+use Rattle.aux_table.specs.Build.{Buildable}
 use Rattle.aux_table.proofs.Laid.{take-laid, over-laid, laid-made, laid-zeros}
 use Rattle.aux_table.proofs.Sizing.{size-some, size-zero}
 
 -- the table after n of the words
 abbrev after : ℕ → List ℕ → ℕ → List ℕ
-after base ws n = adds (replicate base 0) (take n ws)
+after base ws n = inserts (replicate base 0) (take n ws)
 
 -- after count of the words ws: the table is in the area of so much room, and the others stand in the scratch from j on
 pub record Turn (base top room : ℕ) (ws area scratch : List ℕ) (size count j : ℕ) : Type 0 where
@@ -48,9 +48,9 @@ new-kept base based = record {
   good = zeros-good base;
 }
 
--- the words can be added to it
-module _ (base : ℕ) (ws : List ℕ) (based : Based base) (words : Words ws) where
-  start : Addables base (replicate base 0) ws
+-- the words can be inserted into it
+module _ (base : ℕ) (ws : List ℕ) (based : Based base) (words : Makable ws) where
+  start : Insertables base (replicate base 0) ws
   start = record {
     four = based .four;
     kept = new-kept base based;
@@ -61,7 +61,7 @@ module _ (base : ℕ) (ws : List ℕ) (based : Based base) (words : Words ws) wh
   }
 
   module _ (n : ℕ) (upto : n ≤ length ws) where
-    ok-after : Addables base (after base ws n) (drop n ws)
+    ok-after : Insertables base (after base ws n) (drop n ws)
     ok-after = prefix base n (replicate base 0) ws start upto
 
     used-after : used (after base ws n) ≡ n
@@ -72,7 +72,7 @@ module _ (base : ℕ) (ws : List ℕ) (based : Based base) (words : Words ws) wh
 
 module _ (area₀ scratch₀ : List ℕ) (base top : ℕ) (ok : Buildable area₀ scratch₀ base top) where
   pub turn-none : Turn base top (length area₀) (drop top scratch₀) area₀ scratch₀ base 0 top
-  unfolding adds
+  unfolding inserts
   turn-none = record {
     at = add-zero top;
     upto = omega arith;
@@ -94,7 +94,7 @@ module _ (area₀ scratch₀ : List ℕ) (base top : ℕ) (ok : Buildable area�
         turn .table ∙ ap (λ (l : List ℕ). laid (length area₀) (made base l)) (ap (λ (n : ℕ). take n (drop top scratch₀)) e ∙ take-length (drop top scratch₀))
 
 -- a turn, over the words, the room and the length of the scratch
-module _ (base top room : ℕ) (ws : List ℕ) (based : Based base) (words : Words ws) (fits : tableSize base (length ws) ≤ room) (spared : tableSize base (length ws) ≤ top + length ws)
+module _ (base top room : ℕ) (ws : List ℕ) (based : Based base) (words : Makable ws) (fits : tableSize base (length ws) ≤ room) (spared : tableSize base (length ws) ≤ top + length ws)
     (area scratch : List ℕ) (size count j : ℕ) (turn : Turn base top room ws area scratch size count j) (more : j < length scratch) where
   count-lt : count < length ws
   count-lt = omega (arith, turn .at, turn .long)
@@ -105,7 +105,7 @@ module _ (base top room : ℕ) (ws : List ℕ) (based : Based base) (words : Wor
   base-fits : base ≤ room
   base-fits = omega (arith, size-base base (length ws), final, fits)
 
-  ok-now : Addables base (after base ws count) (drop count ws)
+  ok-now : Insertables base (after base ws count) (drop count ws)
   ok-now = ok-after base ws based words count (turn .upto)
 
   used-now : used (after base ws count) ≡ count
@@ -137,9 +137,9 @@ module _ (base top room : ℕ) (ws : List ℕ) (based : Based base) (words : Wor
       ap (λ (k : ℕ). getD scratch k 0) (sym (add-zero j)) ∙ sym (getD-drop j scratch 0 0) ∙ ap (λ (l : List ℕ). getD l 0 0) (turn .rest)
       ∙ getD-drop count ws 0 0 ∙ ap (λ (k : ℕ). getD ws k 0) (add-zero count)
 
-  ok-head : Addables base (after base ws count) (getD scratch j 0 ∷ drop (suc count) ws)
+  ok-head : Insertables base (after base ws count) (getD scratch j 0 ∷ drop (suc count) ws)
   ok-head =
-      subst (Addables base (after base ws count)) (drop-cons ws count 0 count-lt ∙ ap (λ (x : ℕ). x ∷ drop (suc count) ws) (sym word-is)) ok-now
+      subst (Insertables base (after base ws count)) (drop-cons ws count 0 count-lt ∙ ap (λ (x : ℕ). x ∷ drop (suc count) ws) (sym word-is)) ok-now
 
   pub insertable : Insertable area scratch size count (getD scratch j 0)
   insertable = record {
@@ -159,29 +159,29 @@ module _ (base top room : ℕ) (ws : List ℕ) (based : Based base) (words : Wor
   before-rest : 3 * size < 4 * (count + 1) → size ≤ j + 1
   before-rest h = omega (arith, turn .at, size-upto, final, spared, size-fits base (length ws) (words .few) (based .four))
 
-  one-more : used (insert (after base ws count) (getD scratch j 0)) ≡ count + 1
-  one-more = used-insert _ _ (kept-room base _ (ok-now .kept) (based .four)) (next-some base _ _ _ ok-head) (next-absent base _ _ _ ok-head) ∙ omega (arith, used-now)
+  one-more : used (replace (after base ws count) (getD scratch j 0)) ≡ count + 1
+  one-more = used-fresh _ _ (kept-room base _ (ok-now .kept) (based .four)) (next-some base _ _ _ ok-head) (next-absent base _ _ _ ok-head) ∙ omega (arith, used-now)
 
-  kept-rest : drop (j + 1) (scratched (insert (after base ws count) (getD scratch j 0)) scratch) ≡ drop (j + 1) scratch
+  kept-rest : drop (j + 1) (scratched (replace (after base ws count) (getD scratch j 0)) scratch) ≡ drop (j + 1) scratch
   unfolding scratched
-  kept-rest = go (leb (4 * used (insert (after base ws count) (getD scratch j 0))) (3 * length (insert (after base ws count) (getD scratch j 0)))) refl
+  kept-rest = go (leb (4 * used (replace (after base ws count) (getD scratch j 0))) (3 * length (replace (after base ws count) (getD scratch j 0)))) refl
     where
       drop-over : (t : List ℕ) → length t ≤ j + 1 → drop (j + 1) (over t scratch) ≡ drop (j + 1) scratch
       drop-over t h =
           let e : j + 1 ≡ length t + (j + 1 - length t) = omega arith in
           ap (λ (k : ℕ). drop k (over t scratch)) e ∙ drop-append-add t (drop (length t) scratch) (j + 1 - length t) ∙ drop-drop (j + 1 - length t) (length t) scratch ∙ ap (λ (k : ℕ). drop k scratch) (sym e)
 
-      go : (b : Bool) → leb (4 * used (insert (after base ws count) (getD scratch j 0))) (3 * length (insert (after base ws count) (getD scratch j 0))) ≡ b
-          → drop (j + 1) (pick b scratch (over (insert (after base ws count) (getD scratch j 0)) scratch)) ≡ drop (j + 1) scratch
+      go : (b : Bool) → leb (4 * used (replace (after base ws count) (getD scratch j 0))) (3 * length (replace (after base ws count) (getD scratch j 0))) ≡ b
+          → drop (j + 1) (pick b scratch (over (replace (after base ws count) (getD scratch j 0)) scratch)) ≡ drop (j + 1) scratch
       go true q = refl
       go false q =
-          let long = length-insert (after base ws count) (getD scratch j 0) in
-          let full = leb-false (4 * used (insert (after base ws count) (getD scratch j 0))) (3 * length (insert (after base ws count) (getD scratch j 0))) q in
-          drop-over (insert (after base ws count) (getD scratch j 0)) (omega (arith, before-rest (omega (arith, full, one-more, long, turn .sized)), long, turn .sized))
+          let long = length-replace (after base ws count) (getD scratch j 0) in
+          let full = leb-false (4 * used (replace (after base ws count) (getD scratch j 0))) (3 * length (replace (after base ws count) (getD scratch j 0))) q in
+          drop-over (replace (after base ws count) (getD scratch j 0)) (omega (arith, before-rest (omega (arith, full, one-more, long, turn .sized)), long, turn .sized))
 
-  added : add (take size area) (getD scratch j 0) ≡ after base ws (count + 1)
-  added =
-      ap (λ (l : List ℕ). add l (getD scratch j 0)) table-now ∙ ap (add (after base ws count)) word-is ∙ sym (adds-more (replicate base 0) ws count count-lt)
+  inserted : insert (take size area) (getD scratch j 0) ≡ after base ws (count + 1)
+  inserted =
+      ap (λ (l : List ℕ). insert l (getD scratch j 0)) table-now ∙ ap (insert (after base ws count)) word-is ∙ sym (inserts-more (replicate base 0) ws count count-lt)
       ∙ ap (after base ws) (sym (add-one count))
 
   long-next : length (after base ws (count + 1)) ≡ sizeFor base (suc count)
@@ -194,12 +194,12 @@ module _ (base top room : ℕ) (ws : List ℕ) (based : Based base) (words : Wor
     upto = omega (arith, count-lt);
     long = ls ∙ turn .long;
     wide = la ∙ turn .wide;
-    sized = done .long ∙ ap length added;
+    sized = done .long ∙ ap length inserted;
     table =
-        done .table ∙ ap (λ (l : List ℕ). over l area) added ∙ ap (over (after base ws (count + 1))) laid-now
+        done .table ∙ ap (λ (l : List ℕ). over l area) inserted ∙ ap (over (after base ws (count + 1))) laid-now
         ∙ over-laid room (after base ws count) (after base ws (count + 1)) (omega (arith, long-next, size-mono base count (suc count) (omega arith), size-now, turn .sized)) (omega (arith, long-next, next-upto, final, fits))
         ∙ laid-made room base (take (count + 1) ws) base-fits;
     rest =
-        ap (drop (j + 1)) (done .rest ∙ ap (λ (l : List ℕ). scratched (insert l (getD scratch j 0)) scratch) table-now) ∙ kept-rest
+        ap (drop (j + 1)) (done .rest ∙ ap (λ (l : List ℕ). scratched (replace l (getD scratch j 0)) scratch) table-now) ∙ kept-rest
         ∙ sym (drop-drop 1 j scratch) ∙ ap (drop 1) (turn .rest) ∙ drop-drop 1 count ws;
   }

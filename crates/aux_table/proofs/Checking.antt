@@ -1,5 +1,5 @@
 -- What the tests of `check` tell. Assumes nothing.
-use mathlib.Core.Path.{_≡_, refl, sym, _∙_, ap, subst}
+use mathlib.Core.Path.{_≡_, sym, _∙_, ap, subst}
 use mathlib.Core.Bool.{Bool, false}
 use mathlib.Core.List.{List}
 use Prim.Native.Nat.{ℕ, _-_, _≤_, _<_}
@@ -9,11 +9,10 @@ use lib.ListN.{length, take, drop, length-drop}
 use lib.Seq.{length-take-le, take-all}
 use Rattle.model.specs.Pick.{Tells}
 use Rattle.model.specs.Table.{Room, Reached, used, sizeFor, tableSize}
-use Rattle.model.proofs.FirstLaws.{true-not-false}
-use Rattle.model.proofs.Tells.{tells-no, tells-as}
-use Rattle.model.proofs.Refill.{room-of}
-use Rattle.model.proofs.Added.{size-fits}
-use Rattle.model.proofs.Adds.{size-power}
+use Rattle.model.proofs.order.Tells.{tells-no, tells-as}
+use Rattle.model.proofs.table.Refill.{room-of}
+use Rattle.model.proofs.table.Inserted.{size-fits}
+use Rattle.model.proofs.table.Inserts.{size-power}
 use Rattle.aux_map.specs.Sizes.{Based}
 use Rattle.aux_table.specs.Check.{Walkable, Ordered}
 use Rattle.aux_table.proofs.Sizing.{size-none, size-some}

@@ -5,7 +5,7 @@ use Prim.Native.Nat.{ℕ, _+_, _-_, _≤_}
 use native.Mathlib.Omega.{arith}
 use lib.ListN.{length, take, drop, replicate, length-replicate, replicate-append-replicate}
 use lib.Seq.{take-at, drop-at, drop-append-add}
-use Rattle.model.specs.Table.{adds, made, laid}
+use Rattle.model.specs.Table.{inserts, made, laid}
 use Rattle.aux_map.specs.Grow.{over}
 
 zeros-split : (m n : ℕ) → m ≤ n → replicate m 0 ++ replicate (n - m) 0 ≡ replicate {A = ℕ} n 0
@@ -36,7 +36,7 @@ over-laid n t u h k =
     ∙ ap (λ (i : ℕ). replicate i 0) f)
 
 -- a table of no words is an empty one of the base's size, or none
-pub laid-made : (n base : ℕ) (ws : List ℕ) → base ≤ n → laid n (adds (replicate base 0) ws) ≡ laid n (made base ws)
-unfolding adds
+pub laid-made : (n base : ℕ) (ws : List ℕ) → base ≤ n → laid n (inserts (replicate base 0) ws) ≡ laid n (made base ws)
+unfolding inserts
 laid-made n base [] h = laid-zeros n base h ∙ sym (laid-zeros n 0 (omega arith))
 laid-made n base (w ∷ ws) h = refl

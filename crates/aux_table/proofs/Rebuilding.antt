@@ -1,19 +1,20 @@
 -- What `rebuild` hands to its parts, and what it leaves. Assumes nothing.
-use mathlib.Core.Path.{_≡_, refl, sym, _∙_, ap, ap₂, subst}
+use mathlib.Core.Path.{_≡_, sym, _∙_, ap, ap₂, subst}
 use mathlib.Core.List.{List, _++_}
-use Prim.Native.Nat.{ℕ, _-_, _≤_, _<_}
+use Prim.Native.Nat.{ℕ, _-_, _≤_}
 use native.Mathlib.Omega.{arith}
 use native.Mathlib.Decide.{ℕ-discrete}
-use lib.ListN.{length, getD, take, drop, replicate, length-replicate, length-drop}
+use lib.ListN.{length, take, drop, replicate, length-replicate, length-drop}
 use lib.Seq.{length-take-le}
-use Rattle.model.specs.Table.{used, keeps, made, laid, tableSize}
-use Rattle.model.proofs.Order.{no-slot-twice}
-use Rattle.model.proofs.Adds.{size-mono}
+use Rattle.model.specs.Table.{used, keeps, made, laid, tableSize, Makable}
+use Rattle.model.proofs.table.Order.{no-slot-twice}
+use Rattle.model.proofs.table.Inserts.{size-mono}
 use Rattle.aux_map.specs.Grow.{over}
-use Rattle.aux_table.specs.Build.{NoShorter, Gathered, Words, Buildable, Rebuildable, Rebuilt}
+use Rattle.aux_table.specs.Build.{NoShorter, Gathered, Buildable, Rebuildable, Rebuilt}
 use Rattle.aux_table.proofs.Laid.{laid-zeros, over-laid}
 use Rattle.aux_table.proofs.Sizing.{size-none, size-some}
-use Rattle.model.proofs.Keeps.{keeps-from, keeps-distinct, keeps-few}
+use Rattle.model.proofs.table.Sifted.{keeps-from, keeps-few, sifted-distinct}
+use Rattle.model.proofs.table.Made.{makable}
 
 module _ (area scratch : List ℕ) (base size limit : ℕ) (ok : Rebuildable area scratch base size limit) where
   pub part : length (take size area) ≡ size
@@ -33,11 +34,10 @@ module _ (area scratch : List ℕ) (base size limit : ℕ) (ok : Rebuildable are
       go (yes e) = omega (arith, size-none base _ e)
       go (no h) = omega (arith, size-some base _ h, size-mono base _ _ few, ok .kept .sized, part)
 
-  words : Words (keeps limit (take size area))
-  words = record { few = omega (arith, few, ok .few); some = some; distinct = λ i j li lj e. keeps-distinct limit (take size area) (no-slot-twice (take size area) (ok .kept .good)) i j li lj (some _ (i, li, refl)) (some _ (j, lj, refl)) e }
-    where
-      some : (x : ℕ) → ((p : ℕ) × (p < length (keeps limit (take size area))) × (getD (keeps limit (take size area)) p 0 ≡ x)) → x ≡ 0 → ⊥
-      some x m z = omega (arith, keeps-from limit (take size area) x m .1, ok .some)
+  words : Makable (keeps limit (take size area))
+  words =
+      makable (omega (arith, few, ok .few)) (λ x m z. omega (arith, keeps-from limit (take size area) x m .1, ok .some))
+      (sifted-distinct _ (take size area) (no-slot-twice (take size area) (ok .kept .good)))
 
   -- the area, cleared
   module _ (c : List ℕ) (ec : c ≡ replicate (length (take size area)) 0) where
@@ -57,7 +57,7 @@ module _ (area scratch : List ℕ) (base size limit : ℕ) (ok : Rebuildable are
       buildable = record {
         based = ok .based;
         within = kept .within;
-        words = subst Words (sym (kept .words)) words;
+        words = subst Makable (sym (kept .words)) words;
         clean = clean ∙ ap (λ (n : ℕ). replicate n 0) (sym as-long);
         fits = omega (arith, small, ok .within, as-long, ap (λ (l : List ℕ). tableSize base (length l)) (kept .words));
         spared = omega (arith, small, ok .within, ok .spared, ls, ap (λ (l : List ℕ). tableSize base (length l)) (kept .words));

@@ -11,12 +11,12 @@ use lib.ListN.{length, getD, take, replicate, length-replicate}
 use Rattle.model.specs.Coupon.{slot, word}
 use Rattle.model.specs.Table.{Room, Member, Kept, wordAt, used, laid, opened, sizeFor}
 use Rattle.model.specs.Four.{Exception, TableAt}
-use Rattle.model.proofs.Search.{slot-of-word}
-use Rattle.model.proofs.Refill.{used-zeros}
-use Rattle.model.proofs.Order.{reads, reads-none}
-use Rattle.model.proofs.Grown.{zeros-none}
-use Rattle.model.proofs.Added.{kept-size, kept-room, size-doubles}
-use Rattle.model.proofs.Adds.{size-mono, size-base}
+use Rattle.model.proofs.table.Search.{slot-of-word}
+use Rattle.model.proofs.table.Refill.{used-zeros}
+use Rattle.model.proofs.table.Order.{reads, reads-none}
+use Rattle.model.proofs.table.Grown.{zeros-none}
+use Rattle.model.proofs.table.Inserted.{kept-size, kept-room, size-doubles}
+use Rattle.model.proofs.table.Inserts.{size-mono, size-base}
 use Rattle.aux_map.specs.Sizes.{Based}
 use Rattle.aux_map.specs.Search.{Replaceable}
 use Rattle.aux_map.specs.Grow.{Insertable}

@@ -5,7 +5,7 @@ use native.Mathlib.Nat.{mul-one, not-suc-le-zero}
 use native.Mathlib.Omega.{arith}
 use borrow.Author.Tests.{eq-eqb, ne-eqb}
 use Rattle.model.specs.Table.{sizeFor, tableSize}
-use Rattle.model.proofs.Added.{size-is}
+use Rattle.model.proofs.table.Inserted.{size-is}
 
 pub size-none : (base count : ℕ) → count ≡ 0 → tableSize base count ≡ 0
 unfolding tableSize

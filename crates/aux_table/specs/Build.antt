@@ -4,20 +4,14 @@ use mathlib.Core.List.{List}
 use Prim.Native.Nat.{ℕ, _^_, _≤_, _<_}
 use lib.ListN.{length, getD, take, drop, replicate}
 use Rattle.model.specs.Coupon.{slot}
-use Rattle.model.specs.Table.{Member, Kept, used, keeps, made, laid, tableSize}
+use Rattle.model.specs.Table.{Member, Kept, used, keeps, made, laid, tableSize, Makable}
 use Rattle.aux_map.specs.Sizes.{Based}
-
--- words of a table: none empty, no slot twice, fewer than there are slots
-pub record Words (ws : List ℕ) : Type 0 where
-  pub few : length ws < 2 ^ 26
-  pub some : (x : ℕ) → Member ws x → x ≡ 0 → ⊥
-  pub distinct : (i j : ℕ) → i < length ws → j < length ws → slot (getD ws i 0) ≡ slot (getD ws j 0) → i ≡ j
 
 -- the scratch from top on is a list of words, and the table for them fits into the area, which is empty, and into the scratch
 pub record Buildable (area scratch : List ℕ) (base top : ℕ) : Type 0 where
   pub based : Based base
   pub within : top ≤ length scratch
-  pub words : Words (drop top scratch)
+  pub words : Makable (drop top scratch)
   pub clean : area ≡ replicate (length area) 0
   pub fits : tableSize base (length (drop top scratch)) ≤ length area
   pub spared : tableSize base (length (drop top scratch)) ≤ length scratch

@@ -1,5 +1,5 @@
 // Whole exception tables: made of a list of words, made anew where cur_min rises, and checked where one is handed in.
-use aux_map::SLOTS;
+use coupon::SLOTS;
 ghost use mathlib.Core.Path.{_≡_};
 ghost use lib.ListN.{length, drop};
 ghost use Rattle.model.specs.Pick.{Tells};
@@ -35,7 +35,7 @@ fn keep(table: &[u32], into: &mut [u32], limit: u32) -> usize
     while 0 < i {
         i -= 1;
         let w = table[i];
-        if limit <= w / SLOTS {
+        if limit <= coupon::value(w) as u32 {
             top -= 1;
             into[top] = w;
         }
@@ -79,7 +79,7 @@ pub fn in_order(table: &[u32]) -> bool
     while i < table.len() {
         let w = table[i];
         if w != 0 {
-            let at = aux_map::probe(table, w % SLOTS);
+            let at = aux_map::probe(table, coupon::slot(w));
             if at != i {
                 return false;
             }

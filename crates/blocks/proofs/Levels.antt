@@ -15,12 +15,12 @@ use Rattle.model.specs.Packed.{slotAt}
 use Rattle.model.specs.Table.{baseFor, tableSize}
 use Rattle.model.specs.Sketch.{lowOf, recordOf, cells, floors, tableIn, Good}
 use Rattle.model.specs.declared.Sketch.{Sketch}
-use Rattle.model.proofs.Packing.{getD-unpacked, slot-lt}
-use Rattle.model.proofs.Tests.{cells-long}
-use Rattle.model.proofs.Plain.{six-or-eight}
+use Rattle.model.proofs.packing.Packing.{getD-unpacked, slot-lt}
+use Rattle.model.proofs.order.Tests.{cells-long}
+use Rattle.model.proofs.packing.Lengths.{six-or-eight}
 use Rattle.array4_read.proofs.Held as held
 use Rattle.array8.specs.Asked.{Power, Blocked}
-use Rattle.array8.proofs.Turns.{poured-append}
+use Rattle.model.proofs.registers.Turns.{poured-append}
 use Rattle.blocks.specs.Asked.{Level, Liftable, Floor, Long, PourableBy, Worded}
 use Rattle.blocks.proofs.Turns.{past, past-mod, start-mod, next-start, turn-long, turn-at, turn-left}
 

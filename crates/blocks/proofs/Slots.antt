@@ -7,11 +7,12 @@ use lib.ListN.{length, getD, take, drop, length-drop}
 use lib.Pow.{pow-mono}
 use lib.Seq.{ext-getD, length-take-le}
 use Rattle.model.specs.Packed.{Bytes, unpacked}
-use Rattle.model.specs.Sketch.{bytesOf, cells, registers}
+use Rattle.model.specs.Sketch.{cells, registers}
 use Rattle.model.specs.declared.Sketch.{Sketch}
-use Rattle.model.proofs.Packing.{Filled}
-use Rattle.model.proofs.Plain.{left-four, plain-cells}
-use Rattle.model.proofs.Kept.{registers-long}
+use Rattle.model.proofs.packing.Packing.{Filled}
+use Rattle.model.proofs.packing.Lengths.{left-four, if-eight, if-six, if-four}
+use Rattle.model.proofs.order.Plain.{plain-cells}
+use Rattle.model.proofs.calls.Has.{registers-long}
 use Rattle.packed.specs.Room.{Room6}
 use Rattle.blocks.specs.Asked.{Within, Block}
 use Rattle.blocks.proofs.Turns.{turn-long, turn-at}
@@ -21,23 +22,17 @@ module _ {s : Sketch} {n from m : ℕ} (w : Within s n from m) where
   pub few : 2 ^ s .«lg_k» ≤ 2 ^ 21
   few = pow-mono (w .shaped .high)
 
-  bytes-of : {kind : ℕ} → s .kind ≡ kind → n ≡ bytesOf kind (s .«lg_k»)
-  bytes-of e = w .shaped .long ∙ ap (λ (x : ℕ). bytesOf x (s .«lg_k»)) e
-
   pub fits-8 : s .kind ≡ 8 → from + m ≤ n
-  unfolding bytesOf
-  fits-8 e = omega (arith, bytes-of e, w .inside)
+  fits-8 e = omega (arith, w .shaped .long, if-eight (s .«lg_k») e, w .inside)
 
   pub fits-6 : s .kind ≡ 6 → from / 4 * 3 + m / 4 * 3 + 1 ≤ n
-  unfolding bytesOf
-  fits-6 e = omega (arith, bytes-of e, w .inside, w .start, w .long)
+  fits-6 e = omega (arith, w .shaped .long, if-six (s .«lg_k») e, w .inside, w .start, w .long)
 
   pub is-4 : (s .kind ≡ 8 → ⊥) → (s .kind ≡ 6 → ⊥) → s .kind ≡ 4
   is-4 = left-four (s .kind) (w .shaped .is-kind)
 
   pub fits-4 : s .kind ≡ 4 → from / 2 + m / 2 ≤ n
-  unfolding bytesOf
-  fits-4 e = omega (arith, bytes-of e, w .inside, w .start, w .long)
+  fits-4 e = omega (arith, w .shaped .long, if-four (s .«lg_k») e, w .inside, w .start, w .long)
 
 -- kind 6's part has a byte to spare
 pub part-6 : {s : Sketch} {from m : ℕ} (bs : List ℕ) → Within s (length bs) from m → s .kind ≡ 6 → Room6 m (length (take (from / 4 * 3 + m / 4 * 3 + 1 - from / 4 * 3) (drop (from / 4 * 3) bs)))

@@ -71,7 +71,7 @@ fn pour_by(s: Sketch, regs: &[u8], some: &mut [u8], target: &mut [u8])
     requires { ⌜ PourableBy s (length (now regs)) (length (now some)) (length (now target)) ⌝ }
     ensures { λ _. ⌜ now (target .exit) ≡ joined (length (now (target .entry))) (now (target .entry)) (book.floors s (now (regs .entry))) ⌝ }
 {
-    let k = array8::num_registers(s.lg_k);
+    let k = shape::num_registers(s.lg_k);
     let mut from = 0;
     while from < k {
         floors(s, regs, from, some);

@@ -26,7 +26,7 @@ recordOut l s =
     kept (getD l 0 0) (s .kind) ∷ kept (getD l 1 0) (s .«lg_k») ∷ kept (getD l 2 0) (s .«cur_min») ∷ s .«num_at_cur_min» ∷ s .«aux_count» ∷ []
 
 -- a word that is kept for a byte, and stands for it
-pub record Kept (w b r : ℕ) : Type 0 where
+pub record Carried (w b r : ℕ) : Type 0 where
   pub word-is : r ≡ kept w b
   pub stands : narrowed r ≡ b
 

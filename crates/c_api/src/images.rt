@@ -5,7 +5,7 @@ use crate::record::put;
 ghost use mathlib.Core.Path.{_≡_};
 ghost use Rattle.model.specs.Image.{wrote, writeOf, openOf};
 ghost use Rattle.c_api.specs.Words.{recordIn};
-ghost use Rattle.c_api.specs.Lent.{lent, handed};
+ghost use Rattle.c_api.specs.Worded.{worded, handed};
 
 #[no_mangle]
 pub extern "C" fn lp_write(
@@ -17,7 +17,7 @@ pub extern "C" fn lp_write(
 ) -> u32
     ensures { λ r. ⌜ wrote r (now (len .exit)) (now (out .exit)) ≡ writeOf (recordIn (now (words .entry))) (now (regs .entry)) (now (aux .entry)) (now (out .entry)) ⌝ }
 {
-    let written = image::write(get(words), regs, aux, out);
+    let written = image_write::write(get(words), regs, aux, out);
     *len = written.len;
     let answer = written.answer;
     number(answer)
@@ -31,7 +31,7 @@ pub extern "C" fn lp_open(
     aux: &mut [u32],
     scratch: &mut [u32],
 ) -> u32
-    ensures { λ r. ⌜ lent r (now (words .exit)) 0 (now (regs .exit)) (now (aux .exit)) ≡ handed (now (words .entry)) (openOf (now (image .entry)) (now (regs .entry)) (now (aux .entry)) (now (scratch .entry))) ⌝ }
+    ensures { λ r. ⌜ worded r (now (words .exit)) 0 (now (regs .exit)) (now (aux .exit)) ≡ handed (now (words .entry)) (openOf (now (image .entry)) (now (regs .entry)) (now (aux .entry)) (now (scratch .entry))) ⌝ }
 {
     let opened = image_open::open(image, regs, aux, scratch);
     let after = opened.sketch;

@@ -3,7 +3,7 @@ use model::Answer;
 use model::Sketch;
 ghost use mathlib.Core.Path.{_≡_};
 ghost use Rattle.model.specs.Answers.{numberOf};
-ghost use Rattle.c_api.specs.Words.{narrowed, recordIn, Kept, Put};
+ghost use Rattle.c_api.specs.Words.{narrowed, recordIn, Carried, Put};
 
 // 255 where a word is no byte: neither a kind nor an lg_k nor a cur_min, so the call refuses it.
 pub fn narrow(word: u32) -> u8
@@ -17,7 +17,7 @@ pub fn narrow(word: u32) -> u8
 
 // The word itself as long as it stands for the byte: a refused record stays as it was, also where a word is no byte.
 fn keep(word: u32, byte: u8) -> u32
-    ensures { λ r. ⌜ Kept word byte r ⌝ }
+    ensures { λ r. ⌜ Carried word byte r ⌝ }
 {
     if narrow(word) == byte {
         return word;

@@ -1,34 +1,34 @@
-// The writing side of the binary image, below the public call: `serialize` of the arrays. Whoever calls has checked the sketch, has worked
-// out its two sums, and has seen by `image_len` that the buffer has room.
-mod header;
-mod parts;
-mod words;
-
-use header::put_header;
+// Writing an image: the public call over image_put. It asks for nothing, and its contract is one equation for every input.
+use model::Answer;
 use model::Sketch;
-use parts::put;
-use words::put_words;
 ghost use mathlib.Core.Path.{_≡_};
-ghost use mathlib.Core.List.{_++_};
-ghost use lib.ListN.{length, drop};
-ghost use Rattle.model.specs.Sketch.{Good};
-ghost use Rattle.model.specs.Image.{imageIn};
-ghost use Rattle.image_write.specs.Write.{Writable};
+ghost use Rattle.model.specs.Answers.{numberOf};
+ghost use Rattle.model.specs.Image.{wrote, writeOf};
 
-// Forty bytes, the registers, and four bytes for each exception. The area is there for the promise alone: the record counts its words.
-pub fn image_len(s: Sketch, regs: &[u8], aux: &[u32]) -> usize
-    requires { ⌜ Good s (now regs) (now aux) ⌝ }
-    ensures { λ r. ⌜ r ≡ length (imageIn s (now (regs .entry)) (now (aux .entry))) ⌝ }
-{
-    40 + regs.len() + 4 * (s.aux_count as usize)
+// The length is 0 where the answer refuses.
+pub struct Written {
+    pub answer: Answer,
+    pub len: usize,
 }
 
-// The image over the front of the buffer; bytes past it stay. Kinds 6 and 8 have an exception count of zero, so no words follow.
-pub fn write_image(s: Sketch, kxq0: f64, kxq1: f64, regs: &[u8], aux: &[u32], out: &mut [u8])
-    requires { ⌜ Writable s kxq0 kxq1 (now regs) (now aux) (now out) ⌝ }
-    ensures { λ _. ⌜ now (out .exit) ≡ imageIn s (now (regs .entry)) (now (aux .entry)) ++ drop (length (imageIn s (now (regs .entry)) (now (aux .entry)))) (now (out .entry)) ⌝ }
+pub fn write(sketch: Sketch, regs: &[u8], aux: &[u32], out: &mut [u8]) -> Written
+    ensures { λ r. ⌜ wrote (numberOf (r .answer)) (r .len) (now (out .exit)) ≡ writeOf sketch (now (regs .entry)) (now (aux .entry)) (now (out .entry)) ⌝ }
 {
-    put_header(s, kxq0, kxq1, out);
-    put(&mut out[40..], 0, regs);
-    put_words(out, 40 + regs.len(), aux, s.aux_count as usize);
+    let answer = sketch_check::check(true, sketch, regs, aux);
+    if model::number(answer) != 0 {
+        return Written { answer, len: 0 };
+    }
+    let len = image_put::image_len(sketch, regs, aux);
+    if out.len() < len {
+        return Written {
+            answer: Answer::Out,
+            len: 0,
+        };
+    }
+    let sums = sums::from_counts(block_counts::counts(sketch, regs, aux));
+    image_put::write_image(sketch, sums.kxq0, sums.kxq1, regs, aux, out);
+    Written {
+        answer: Answer::Ok,
+        len,
+    }
 }

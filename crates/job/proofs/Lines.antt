@@ -11,8 +11,8 @@ use lib.ListN.{length, getD, take, drop, length-drop, drop-of-length-le}
 use lib.Seq.{split-at, drop-cons, drop-drop, length-take-le, getD-take, getD-append-seam, drop-append-seam}
 use borrow.Author.Tests.{eqb-true, leb-true, le-leb, eq-eqb}
 use Rattle.model.specs.Pick.{pick, both, Tells}
-use Rattle.model.proofs.Tells.{tells-both, tells-le, tells-true}
-use Rattle.text.specs.Text.{text, line, standsAt}
+use Rattle.model.proofs.order.Tells.{tells-both, tells-le, tells-true}
+use Rattle.text.specs.Text.{line, standsAt}
 use Rattle.text.proofs.Standing.{stands-front, stands-before}
 use Rattle.job.specs.Job.{graphic, span, pathIn, Path}
 

@@ -9,7 +9,7 @@ use lib.ListN.{length, take, drop, length-drop, length-append}
 use lib.Seq.{drop-drop}
 use borrow.Author.Tests.{eqb-true, ne-eqb}
 use Rattle.model.specs.Pick.{pick}
-use Rattle.model.proofs.Tells.{tells-true}
+use Rattle.model.proofs.order.Tells.{tells-true}
 use Rattle.text.specs.Text.{text}
 use Rattle.job.specs.Job.{Job, noJob, sizeLine, inLines, sizeIn, pathIn, insIn, jobOf, placesOf}
 use Rattle.job.specs.declared.Places.{Places}
@@ -34,80 +34,90 @@ too-long l h = no-job l (λ a. omega arith)
 pub no-size : (l : List ℕ) → 0 ≡ sizeIn l → placesOf noJob ≡ placesOf (jobOf l)
 no-size l h = no-job l (λ a. omega arith)
 
--- where the parts stand
-module _ (l : List ℕ) (lgk : ℕ) (size : lgk ≡ sizeIn l) (some : lgk ≡ 0 → ⊥) where
+-- where the size stands, and the `in=` lines
+pub record Listing (l : List ℕ) (lgk first files last : ℕ) : Type 0 where
+  pub size : lgk ≡ sizeIn l
+  pub some : lgk ≡ 0 → ⊥
+  pub starts : first ≡ length (sizeLine lgk)
+  pub listed : (files ≡ length (insIn 64 (drop first l))) × (last ≡ first + length (inLines (insIn 64 (drop first l))))
+
+module _ (l : List ℕ) {lgk : ℕ} (size : lgk ≡ sizeIn l) (some : lgk ≡ 0 → ⊥) where
   positive : 0 < sizeIn l
   positive = omega arith
 
   pub size-fits : (4 ≤ lgk) × (lgk ≤ 12)
   size-fits = let s = size-line l positive in (omega arith, omega arith)
 
-  module _ (first : ℕ) (starts : first ≡ length (sizeLine lgk)) where
-    same-first : first ≡ length (sizeLine (sizeIn l))
-    same-first = starts ∙ ap (λ (n : ℕ). length (sizeLine n)) size
+  same-start : {first : ℕ} → first ≡ length (sizeLine lgk) → first ≡ length (sizeLine (sizeIn l))
+  same-start starts = starts ∙ ap (λ (n : ℕ). length (sizeLine n)) size
 
-    pub first-room : first ≤ length l
-    first-room = let e = same-first in omega (arith, ap length (size-line l positive .line-is), length-append (sizeLine (sizeIn l)) (drop (length (sizeLine (sizeIn l))) l))
+  pub first-room : {first : ℕ} → first ≡ length (sizeLine lgk) → first ≤ length l
+  first-room starts =
+      let e = same-start starts in
+      omega (arith, ap length (size-line l positive .line-is), length-append (sizeLine (sizeIn l)) (drop (length (sizeLine (sizeIn l))) l))
 
-    same-ins : insIn 64 (drop first l) ≡ insOf l
-    same-ins = ap (λ (n : ℕ). insIn 64 (drop n l)) same-first
+module _ {l : List ℕ} {lgk first files last : ℕ} (p : Listing l lgk first files last) where
+  same-first : first ≡ length (sizeLine (sizeIn l))
+  same-first = same-start l (p .size) (p .some) (p .starts)
 
-    module _ (files last : ℕ) (listed : (files ≡ length (insIn 64 (drop first l))) × (last ≡ first + length (inLines (insIn 64 (drop first l))))) where
-      same-files : files ≡ length (insOf l)
-      same-files = listed .0 ∙ ap length same-ins
+  same-ins : insIn 64 (drop first l) ≡ insOf l
+  same-ins = ap (λ (n : ℕ). insIn 64 (drop n l)) same-first
 
-      pub no-ins : files ≡ 0 → placesOf noJob ≡ placesOf (jobOf l)
-      no-ins h = let e = same-files in no-job l (λ a. omega arith)
+  same-files : files ≡ length (insOf l)
+  same-files = p .listed .0 ∙ ap length same-ins
 
-      same-last : drop last l ≡ lastOf l
-      same-last =
-          let a = ap (λ (n : ℕ). drop n l) (listed .1) in
-          let b = sym (drop-drop (length (inLines (insIn 64 (drop first l)))) first l) in
-          let d = ap (λ (n : ℕ). drop (length (inLines (insIn 64 (drop n l)))) (drop n l)) same-first in
-          a ∙ b ∙ d
+  pub no-ins : files ≡ 0 → placesOf noJob ≡ placesOf (jobOf l)
+  no-ins h = let e = same-files in no-job l (λ a. omega arith)
 
-      pub last-room : last ≤ length l
-      last-room =
-          let r = ap length (ins-text 64 (drop first l) .lines-are) in
-          let e = length-append (inLines (insIn 64 (drop first l))) (drop (length (inLines (insIn 64 (drop first l)))) (drop first l)) in
-          let d = length-drop first l in
-          let f = first-room in
-          let q = listed .1 in
-          omega arith
+  same-last : drop last l ≡ lastOf l
+  same-last =
+      let a = ap (λ (n : ℕ). drop n l) (p .listed .1) in
+      let b = sym (drop-drop (length (inLines (insIn 64 (drop first l)))) first l) in
+      let d = ap (λ (n : ℕ). drop (length (inLines (insIn 64 (drop n l)))) (drop n l)) same-first in
+      a ∙ b ∙ d
 
-      module _ (n : ℕ) (path : n ≡ pathIn (text "out=") (drop last l)) where
-        same-path : n ≡ outOf l
-        same-path = path ∙ ap (λ (t : List ℕ). pathIn (text "out=") t) same-last
+  pub last-room : last ≤ length l
+  last-room =
+      let r = ap length (ins-text 64 (drop first l) .lines-are) in
+      let e = length-append (inLines (insIn 64 (drop first l))) (drop (length (inLines (insIn 64 (drop first l)))) (drop first l)) in
+      let d = length-drop first l in
+      let f = first-room l (p .size) (p .some) (p .starts) in
+      let q = p .listed .1 in
+      omega arith
 
-        pub no-out : n ≡ 0 → placesOf noJob ≡ placesOf (jobOf l)
-        no-out h = let e = same-path in no-job l (λ a. omega arith)
+  module _ {n : ℕ} (path : n ≡ pathIn (text "out=") (drop last l)) where
+    same-path : n ≡ outOf l
+    same-path = path ∙ ap (λ (t : List ℕ). pathIn (text "out=") t) same-last
 
-        pub path-fits : (n ≡ 0 → ⊥) → n + 5 ≤ length l
-        path-fits h =
-            let p : 0 < pathIn (text "out=") (drop last l) = omega arith in
-            let r = path-room (text "out=") (drop last l) p in
-            let d = length-drop last l in
-            omega arith
+    pub no-out : n ≡ 0 → placesOf noJob ≡ placesOf (jobOf l)
+    no-out h = let e = same-path in no-job l (λ a. omega arith)
 
-        same-length : length l - last ≡ length (lastOf l)
-        same-length = sym (length-drop last l) ∙ ap length same-last
+    pub path-fits : (n ≡ 0 → ⊥) → n + 5 ≤ length l
+    path-fits h =
+        let r = path-room (text "out=") (drop last l) (omega arith) in
+        let d = length-drop last l in
+        omega arith
 
-        pub more-behind : (length l - last ≡ n + 5 → ⊥) → placesOf noJob ≡ placesOf (jobOf l)
-        more-behind h = let e = same-path in let s = same-length in no-job l (λ a. h (omega arith))
+    same-length : length l - last ≡ length (lastOf l)
+    same-length = sym (length-drop last l) ∙ ap length same-last
 
-        pub found : length l ≤ 4096 → (files ≡ 0 → ⊥) → (n ≡ 0 → ⊥) → length l - last ≡ n + 5 → record { «lg_k» = lgk; files = files; first = first; last = last } ≡ placesOf (jobOf l)
-        unfolding jobOf placesOf
-        found a b c d =
-            let p = same-path in
-            let s = same-length in
-            let f = same-files in
-            let ok = tells-true _ (tests-tell l (sizeIn l) (insOf l) (lastOf l) (outOf l)) (a, (positive, (omega arith, (omega arith, omega arith)))) in
-            let z = ne-eqb (sizeIn l) 0 (λ e. some (size ∙ e)) in
-            let q = same-first in
-            let r : last ≡ first + length (inLines (insOf l)) = listed .1 ∙ ap (λ (ps : List (List ℕ)). first + length (inLines ps)) same-ins in
-            let places : ℕ → ℕ → ℕ → ℕ → Places = λ a b c d. record { «lg_k» = a; files = b; first = c; last = d } in
-            let t : places lgk files first last ≡ places (sizeIn l) (length (insOf l)) (length (sizeLine (sizeIn l))) (length (sizeLine (sizeIn l)) + length (inLines (insOf l))) = cc in
-            t ∙ sym (ap (λ (b : Bool). placesOf (pick b (readOf l) noJob)) ok ∙ simp z)
+    pub more-behind : (length l - last ≡ n + 5 → ⊥) → placesOf noJob ≡ placesOf (jobOf l)
+    more-behind h = let e = same-path in let s = same-length in no-job l (λ a. h (omega arith))
+
+    pub found : length l ≤ 4096 → (files ≡ 0 → ⊥) → (n ≡ 0 → ⊥) → length l - last ≡ n + 5 → record { «lg_k» = lgk; files = files; first = first; last = last } ≡ placesOf (jobOf l)
+    unfolding jobOf placesOf
+    found a b c d =
+        let e = same-path in
+        let s = same-length in
+        let f = same-files in
+        let size = p .size in
+        let ok = tells-true _ (tests-tell l (sizeIn l) (insOf l) (lastOf l) (outOf l)) (a, (positive l size (p .some), (omega arith, (omega arith, omega arith)))) in
+        let z = ne-eqb (sizeIn l) 0 (λ e. p .some (size ∙ e)) in
+        let q = same-first in
+        let r : last ≡ first + length (inLines (insOf l)) = p .listed .1 ∙ ap (λ (ps : List (List ℕ)). first + length (inLines ps)) same-ins in
+        let places : ℕ → ℕ → ℕ → ℕ → Places = λ a b c d. record { «lg_k» = a; files = b; first = c; last = d } in
+        let t : places lgk files first last ≡ places (sizeIn l) (length (insOf l)) (length (sizeLine (sizeIn l))) (length (sizeLine (sizeIn l)) + length (inLines (insOf l))) = cc in
+        t ∙ sym (ap (λ (b : Bool). placesOf (pick b (readOf l) noJob)) ok ∙ simp z)
 
 -- what the places of a job say: its size fits, its `in=` lines start at the first, and its `out=` line at the last
 pub record Says (l : List ℕ) (j : Job) (p : Places) : Type 0 where

@@ -11,8 +11,8 @@ use lib.ListN.{length, take, drop, length-drop, length-append, drop-of-length-le
 use lib.Seq.{drop-drop, length-take-le, drop-append-seam, take-append-seam, drop-at}
 use borrow.Author.Tests.{eqb-false, ltb-true, lt-ltb, le-ltb}
 use Rattle.model.specs.Pick.{pick, both, first, Tells}
-use Rattle.model.proofs.Tells.{tells-both, tells-le, tells-lt, tells-eq, tells-true}
-use Rattle.model.proofs.FirstLaws.{first-holds, first-is, true-not-false}
+use Rattle.model.proofs.order.Tells.{tells-both, tells-le, tells-lt, tells-eq, tells-true}
+use Rattle.model.proofs.table.FirstLaws.{first-holds, first-is, true-not-false}
 use Rattle.text.specs.Text.{text, line, spelt, standsAt}
 use Rattle.text.proofs.Standing.{stands-front}
 use Rattle.job.specs.Job.{Job, job, noJob, sizeLine, inLines, textOf, sizeIn, pathIn, insIn, jobOf, Paths, Fit}

@@ -5,29 +5,28 @@ use mathlib.Core.List.{List, [], _∷_}
 use Prim.Native.Nat.{ℕ, suc, _^_, _≤_}
 use native.Mathlib.Nat.{le-refl}
 use native.Mathlib.Omega.{arith}
-use lib.Dec.{eqb, leb}
-use lib.ListN.{length, getD, length-replicate}
+use lib.Dec.{leb}
+use lib.ListN.{length, length-replicate}
 use lib.Pow.{pow-mono}
-use Rattle.model.specs.Pick.{pick, both, firstOf}
+use Rattle.model.specs.Pick.{pick, firstOf}
 use Rattle.model.specs.Table.{baseFor, tableSize}
-use Rattle.model.specs.Sketch.{isKind, Good}
-use Rattle.model.specs.Check.{lgkNo}
+use Rattle.model.specs.Sketch.{Good}
 use Rattle.model.specs.Calls.{Out, mergeOf}
 use Rattle.model.specs.Image.{sketchIn}
 use Rattle.model.specs.Claims.{Unless, refused, passed, SketchLines}
 use Rattle.model.specs.declared.Sketch.{Sketch}
-use Rattle.model.proofs.Picked.{picked}
-use Rattle.model.proofs.FirstLaws.{true-not-false}
-use Rattle.model.proofs.Shape.{size-shorter}
-use Rattle.model.proofs.Demand1.{kind-tells}
-use Rattle.model.proofs.Standing.{twice-room}
-use Rattle.model.proofs.Kept.{good-bytes}
+use Rattle.model.proofs.calls.Picked.{picked}
+use Rattle.model.proofs.table.FirstLaws.{true-not-false}
+use Rattle.model.proofs.table.Shape.{size-shorter}
+use Rattle.model.proofs.packing.Lengths.{kind-tells}
+use Rattle.model.proofs.calls.Standing.{twice-room}
+use Rattle.model.proofs.calls.Has.{good-bytes}
 use Rattle.model.proofs.Claims.{demand-1, opens-good}
-use Rattle.judge.specs.Ladder.{frontNo}
-use Rattle.merge_job.specs.Merge.{fileNo, openedOf, joinOf, takeOf, File, unread, came, fileOf, Merging, mergeAll}
-use Rattle.merge_job.specs.Promised.{Merged, Target}
+use Rattle.model.proofs.calls.Rungs.{first-either, first-none, header-either, form-either}
+use Rattle.merge_job.specs.Merge.{frontNo, largeNo, fileNo, openedOf, joinOf, takeOf, File, unread, came, fileOf, Merging, mergeAll}
+use Rattle.merge_job.specs.Promised.{Target}
 use Rattle.merge_job.specs.Claims.{answers, among, Answers}
-use Rattle.merge_job.proofs.Filed.{Fits, fits}
+use Rattle.merge_job.proofs.Filed.{Fits, file-says}
 use Rattle.merge_job.proofs.Keeps.{take-keeps}
 
 -- no other number is
@@ -35,18 +34,12 @@ pub none-other : {n : ℕ} → Answers n → (m : ℕ) → among m answers ≡ f
 none-other a m x e = true-not-false (rw e at (a .is)) x
 
 -- ---- rungs and lines
--- a number, and others where it is 0
 first-answers : (n : ℕ) (ns : List ℕ) → Answers n → Answers (firstOf ns) → Answers (firstOf (n ∷ ns))
-unfolding firstOf
-first-answers n ns m r = go (eqb n 0)
-  where
-    go : (b : Bool) → Answers (pick b (firstOf ns) n)
-    go true = r
-    go false = m
+first-answers = first-either Answers
 
 last-answers : Answers (firstOf [])
-unfolding firstOf among
-last-answers = record { is = refl }
+unfolding among
+last-answers = first-none Answers (record { is = refl })
 
 -- a rung
 rung : (b : Bool) (n : ℕ) (ns : List ℕ) → among n answers ≡ true → Answers (firstOf ns) → Answers (firstOf (pick b 0 n ∷ ns))
@@ -66,12 +59,12 @@ passes q (passed p r) = r
 
 -- ---- what is looked at before an image is opened
 unopened-answers : (l : List ℕ) → Answers (fileNo l)
-unfolding fileNo frontNo lgkNo among
+unfolding fileNo frontNo largeNo among
 unopened-answers l =
     let s = sketchIn l in
-    rung (leb (length l) 40000) 17 _ refl
-    (first-answers _ _ (rung (leb 40 (length l)) 7 _ refl (rung (both (eqb (getD l 0 0) 10) (both (eqb (getD l 1 0) 1) (eqb (getD l 2 0) 7))) 8 _ refl last-answers))
-    (rung (isKind (s .kind)) 9 _ refl (rung (both (leb 4 (s .«lg_k»)) (leb (s .«lg_k») 21)) 2 _ refl (rung (leb (s .«lg_k») 12) 20 _ refl last-answers))))
+    first-answers _ _ (rung (leb (length l) 40000) 17 _ refl (first-answers _ _ (header-either Answers l (record { is = refl }) (record { is = refl }) (record { is = refl })) last-answers))
+    (first-answers _ _ (first-answers _ _ (form-either Answers (s .kind) (s .«lg_k») (record { is = refl }) (record { is = refl }) (record { is = refl }))
+    (rung (leb (s .«lg_k») 12) 20 _ refl last-answers)) last-answers)
 
 -- ---- opening
 -- so 8,192 words are room for the exceptions of an image that is not LARGE
@@ -112,7 +105,7 @@ module _ (lgk : ℕ) (t : Sketch) (tregs : List ℕ) (g : Target lgk t tregs) wh
   file-answers (came l b) =
       picked (fileNo l) _ _ (λ (o : Out). Answers (o .no)) (λ z.
       picked (openedOf l .no) _ _ (λ (o : Out). Answers (o .no)) (λ y.
-      merge-answers _ _ _ (opens-good l _ _ _ b y)) (λ n. opened-answers l (fits l z))) (λ n. unopened-answers l)
+      merge-answers _ _ _ (opens-good l _ _ _ b y)) (λ n. opened-answers l (file-says l .0 z))) (λ n. unopened-answers l)
 
   -- NO_ROOM can't occur
   pub never-no-room : (f : File) → fileOf t tregs f .no ≡ 6 → ⊥
@@ -130,7 +123,3 @@ all-answers lgk i t tregs [] g = record { is = refl }
 all-answers lgk i t tregs (f ∷ fs) g =
     picked (fileOf t tregs f .no) _ _ (λ (m : Merging). Answers (m .no)) (λ z.
     all-answers lgk (suc i) _ _ fs (file-keeps lgk t tregs g f z)) (λ n. file-answers lgk t tregs g f)
-
--- and what a run comes to
-pub merged-answers : (lgk files : ℕ) (t : Sketch) (tregs : List ℕ) (m : Merging) → Target lgk t tregs → Merged files t tregs m → Answers (m .no)
-merged-answers lgk files t tregs m g h = rw (h .is) (all-answers lgk 0 t tregs (h .read) g)

@@ -5,42 +5,41 @@ use Prim.Native.Nat.{ℕ, suc, _^_, _≤_}
 use native.Mathlib.Nat.{le-refl}
 use native.Mathlib.Omega.{arith}
 use lib.Dec.{eqb}
-use lib.ListN.{length, getD, take, replicate, length-replicate}
+use lib.ListN.{length, take, replicate, length-replicate}
 use lib.Pow.{pow-mono}
 use lib.Seq.{take-at}
 use borrow.Author.Tests.{ne-eqb}
 use Rattle.model.specs.Pick.{pick}
 use Rattle.model.specs.Packed.{Bytes}
-use Rattle.model.specs.Table.{keeps}
+use Rattle.model.proofs.table.Sifted.{sifted-none}
 use Rattle.model.specs.Sketch.{bytesOf, stored, tableIn, registers, Good}
 use Rattle.model.specs.Calls.{Out, out, startOf, mergeOf}
 use Rattle.model.specs.Image.{imageOf, imageIn, Written, sketchIn, openOf}
 use Rattle.model.specs.History.{start, step, after}
 use Rattle.model.specs.Claims.{Again}
 use Rattle.model.specs.declared.Sketch.{Sketch}
-use Rattle.model.proofs.Tells.{tells-both, tells-le, tells-eq}
-use Rattle.model.proofs.Ladder.{says-next, says-pass, says-last, shape-says}
-use Rattle.model.proofs.Opens.{Opens, open-says}
-use Rattle.model.proofs.Opening.{open-no}
-use Rattle.model.proofs.Writing.{image-long, write-no, writes}
-use Rattle.model.proofs.Room.{few-exceptions, few-words}
-use Rattle.model.proofs.Kept.{start-has, eight-aux}
-use Rattle.model.proofs.Sending.{image-wrote, record-back}
-use Rattle.model.proofs.Demands.{Holding, Holds, mergedTo, holds-merged, holds-run, holds-stands}
-use Rattle.model.proofs.Demand3.{same-as, eight-shaped}
+use Rattle.model.proofs.calls.Ladder.{shape-says}
+use Rattle.model.proofs.image.Opens.{header-says, open-says}
+use Rattle.model.proofs.image.Opening.{open-no}
+use Rattle.model.proofs.image.Writing.{image-long, write-no, writes}
+use Rattle.model.proofs.image.Room.{few-exceptions, few-words}
+use Rattle.model.proofs.calls.Has.{start-has, eight-aux}
+use Rattle.model.proofs.image.Sending.{image-wrote, record-back}
+use Rattle.model.proofs.histories.Demands.{Holding, Holds, mergedTo, holds-merged, holds-run, holds-stands}
+use Rattle.model.proofs.histories.Demand3.{same-as, eight-shaped}
 use Rattle.model.proofs.Claims.{opens-good, reopens, feed-keeps, merge-keeps}
-use Rattle.judge.specs.Ladder.{frontNo}
 use Rattle.job.specs.Job.{jobOf}
 use Rattle.job.proofs.Texts as texts
 use Rattle.merge_job.specs.Merge.{fileNo, openedOf, joinOf, takeOf, File, unread, came, Merging, merging, mergeAll, mergedOf, reportOf}
 use Rattle.merge_job.specs.Promised.{Target}
 use Rattle.merge_job.specs.Claims.{JobText, TextJob, FileAnswers, NeverNoRoom, AllKeep, Sent, AllSent, EndToEnd, PutsThat}
-use Rattle.merge_job.proofs.Filed.{file-fits}
+use Rattle.merge_job.proofs.Filed.{file-says}
 use Rattle.merge_job.proofs.Joining.{bytes-room}
 use Rattle.merge_job.proofs.Answers as numbers
 use Rattle.merge_job.proofs.Answers.{room}
 use Rattle.merge_job.proofs.Keeps as keeps
 use Rattle.merge_job.proofs.Ends.{job-started}
+use Rattle.model.proofs.packing.Lengths.{bytes-eight}
 
 -- ---- one image of a sketch that is not LARGE
 module _ (s : Sketch) (regs aux : List ℕ) (g : Good s regs aux) (small : s .«lg_k» ≤ 12) where
@@ -67,18 +66,11 @@ module _ (s : Sketch) (regs aux : List ℕ) (g : Good s regs aux) (small : s .«
       (λ four. le-refl _)
       (λ four. rw (length-replicate {A = ℕ} 8192 0) (room (s .«lg_k») (s .«aux_count») (g .shaped .low) small (few-exceptions s regs aux g))))
 
-  opened : Opens l (replicate (bytesOf (sketchIn l .kind) (sketchIn l .«lg_k»)) 0) (replicate 8192 0) (replicate 8192 0)
-  unfolding openedOf
-  opened = open-says l _ _ _ .0 (sym (open-no l _ _ _) ∙ opened-again .opens)
-
-  front : frontNo l ≡ 0
-  unfolding frontNo
-  front =
-      says-next _ _ (says-pass _ 6 (tells-le 40 (length l))) (says-next _ _ (says-pass _ 7 (tells-both _ _ (tells-eq (getD l 0 0) 10) (tells-both _ _ (tells-eq (getD l 1 0) 1) (tells-eq (getD l 2 0) 7)))) says-last) .1
-      (opened .long, (opened .begins, tt))
-
   pub file-taken : fileNo (imageIn s regs aux) ≡ 0
-  file-taken = sym (file-fits l short front s (sym back) (g .shaped .is-kind) (g .shaped .low) (g .shaped .high) small)
+  unfolding openedOf
+  file-taken =
+      let o = open-says l _ _ _ .0 (sym (open-no l _ _ _) ∙ opened-again .opens) in
+      file-says l .1 (record { short = short; header = header-says l .1 (o .long, o .begins); known = o .known; low = o .sized .0; small = rw back small })
 
 -- ---- one file
 -- a call is not refused, and leaves a target that these coupons have reached
@@ -152,18 +144,18 @@ same-bytes lgk s u regs aux regs′ aux′ g h k k′ z z′ e =
 
 -- and their image is that of the registers: it has no words
 image-eight : (lgk : ℕ) (R : List ℕ) (s : Sketch) (regs aux : List ℕ) → s .kind ≡ 8 → s .«lg_k» ≡ lgk → registers s regs aux ≡ R → imageIn s regs aux ≡ imageOf 8 lgk R []
-unfolding imageIn tableIn keeps
-image-eight lgk R s regs aux k z e = rw (e, k, z)
+unfolding imageIn tableIn
+image-eight lgk R s regs aux k z e = rw (e, k, z, sifted-none)
 
 pub end-to-end : EndToEnd
-unfolding mergedOf bytesOf reportOf
+unfolding mergedOf reportOf
 end-to-end l fs got some all mem cs long set =
     let t = texts.job-text l some .1 in
     let lgk = jobOf l .lgk in
     let zeros = replicate {A = ℕ} (bytesOf 8 lgk) 0 in
     let o = startOf 8 lgk zeros [] in
     let g = job-started l some in
-    let e = start-has 8 lgk zeros [] (shape-says 8 lgk (length zeros) .1 (eight-shaped lgk (length zeros) (t .lgk-low) (omega (arith, t .lgk-high)) (length-replicate _ 0))) .0 in
+    let e = start-has 8 lgk zeros [] (shape-says 8 lgk (length zeros) .1 (eight-shaped lgk (length zeros) (t .lgk-low) (omega (arith, t .lgk-high)) (length-replicate _ 0 ∙ bytes-eight lgk))) .0 in
     let r = all-sent lgk 0 (o .sketch) (o .regs) [] fs got g (empty lgk zeros e g) all in
     let shaped = eight-shaped lgk (length mem) (t .lgk-low) (omega (arith, t .lgk-high)) long in
     let same = same-as lgk mem cs shaped _ _ [] got (r .2) (r .1 .eight) (r .1 .size) set in

@@ -11,14 +11,14 @@ use lib.Seq.{drop-drop, take-at, take-length}
 use borrow.Author.Tests.{eq-eqb, ne-eqb}
 use Rattle.model.specs.Pick.{pick}
 use Rattle.model.specs.Packed.{Bytes}
-use Rattle.model.specs.Sketch.{isKind, bytesOf, areaOf, Good}
+use Rattle.model.specs.Sketch.{bytesOf, areaOf, Good}
 use Rattle.model.specs.Calls.{Out, out, keptOut, startOf}
 use Rattle.model.specs.Image.{imageIn, Written, writeOf}
 use Rattle.model.specs.declared.Sketch.{Sketch}
-use Rattle.model.proofs.Ladder.{shape-says}
-use Rattle.model.proofs.Kept.{start-has}
-use Rattle.model.proofs.Writing.{image-long}
-use Rattle.model.proofs.Room.{no-words, image-written}
+use Rattle.model.proofs.calls.Ladder.{shape-says}
+use Rattle.model.proofs.calls.Has.{start-has}
+use Rattle.model.proofs.image.Writing.{image-long}
+use Rattle.model.proofs.image.Room.{no-words, image-written}
 use Rattle.sums.specs.Tally.{Registers}
 use Rattle.sketch_sums.proofs.Outcomes.{eight-registers}
 use Rattle.text.specs.Text.{text, Holds}
@@ -32,6 +32,7 @@ use Rattle.merge_job.specs.Merge.{Merging, mergeAll, mergedOf, reportOf}
 use Rattle.merge_job.specs.Promised.{Target, Lists, Merged, Asked, Whole, Puts, Finished, Reported}
 use Rattle.merge_job.proofs.Joining.{bytes-room, zeros-front}
 use Rattle.merge_job.proofs.Keeps.{all-keep}
+use Rattle.model.proofs.packing.Lengths.{is-eight}
 
 -- ---- the end
 -- what is written is a target of a size that may be asked for
@@ -60,9 +61,9 @@ module _ (s : Sketch) (regs : List ℕ) (small : Small s regs) where
 
 -- ---- the start
 pub started : (lgk : ℕ) (regs : List ℕ) (o : Out) → 4 ≤ lgk → lgk ≤ 12 → length regs ≡ bytesOf 8 lgk → o ≡ startOf 8 lgk regs [] → Target lgk (o .sketch) (o .regs)
-unfolding startOf keptOut areaOf isKind
+unfolding startOf keptOut areaOf
 started lgk regs o a b e q =
-    let n = shape-says 8 lgk (length regs) .1 (record { is-kind = refl; low = a; high = omega arith; long = e }) in
+    let n = shape-says 8 lgk (length regs) .1 (record { is-kind = is-eight; low = a; high = omega arith; long = e }) in
     let h = start-has 8 lgk regs [] n .1 in
     let x : startOf 8 lgk regs [] .aux ≡ [] = rw n in
     subst (λ (o : Out). Target lgk (o .sketch) (o .regs)) (sym q)

@@ -1,77 +1,72 @@
 -- The outcomes of what is looked at before an image is opened. Assumes nothing.
-use mathlib.Core.Path.{_≡_, refl, ap, _∙_}
-use mathlib.Core.Bool.{true, false}
-use mathlib.Core.List.{List, [], _∷_}
+use mathlib.Core.Path.{_≡_, refl}
+use mathlib.Core.Bool.{true}
+use mathlib.Core.List.{List}
 use Prim.Native.Nat.{ℕ, _≤_, _<_}
-use lib.Dec.{leb}
+use native.Mathlib.Omega.{arith}
 use lib.ListN.{length}
 use borrow.Author.Tests.{le-leb, lt-leb}
-use Rattle.model.specs.Pick.{pick, firstOf}
 use Rattle.model.specs.Sketch.{isKind}
-use Rattle.model.specs.Check.{lgkNo}
-use Rattle.model.specs.Image.{sketchIn}
-use Rattle.model.specs.declared.Sketch.{Sketch}
-use Rattle.judge.specs.Ladder.{frontNo}
-use Rattle.model.proofs.Tells.{tells-pass, tells-le}
-use Rattle.model.proofs.Ladder.{says-self, says-pass, says-last, says-next, lgk-says}
-use Rattle.judge.proofs.Passing.{front-long}
-use Rattle.judge.proofs.Rungs.{pass, stop, done, through, halt, lgk-low, lgk-high, lgk-fits}
-use Rattle.merge_job.specs.Merge.{fileNo}
+use Rattle.model.specs.Image.{sketchIn, headerNo, formNo}
+use Rattle.model.proofs.order.Tells.{tells-le}
+use Rattle.model.proofs.calls.Ladder.{Says, says-as, says-self, says-pass, says-last, says-next}
+use Rattle.model.proofs.calls.Rungs.{pass, stop, done, through, halt, last}
+use Rattle.model.proofs.image.Opens.{form-says}
+use Rattle.merge_job.specs.Merge.{frontNo, largeNo, fileNo}
 
 module _ (l : List ℕ) where
-  pub file-long : 40000 < length l → 17 ≡ fileNo l
+  pub front-long : 40000 < length l → 17 ≡ frontNo l
+  unfolding frontNo
+  front-long h = stop _ 17 _ refl (lt-leb _ 40000 h)
+
+  pub front-header : {n : ℕ} → length l ≤ 40000 → n ≡ headerNo l → n ≡ frontNo l
+  unfolding frontNo
+  front-header h e = pass _ 17 _ (le-leb _ 40000 h) (last _ e)
+
+module _ (kind lgk : ℕ) where
+  pub large-form : {n : ℕ} → n ≡ formNo kind lgk → (n ≡ 0 → ⊥) → n ≡ largeNo kind lgk
+  unfolding largeNo
+  large-form e h = halt _ _ e h
+
+  module _ (form : formNo kind lgk ≡ 0) where
+    pub large-off : 12 < lgk → 20 ≡ largeNo kind lgk
+    unfolding largeNo
+    large-off h = through _ _ form (stop _ 20 _ refl (lt-leb _ 12 h))
+
+    pub large-right : lgk ≤ 12 → 0 ≡ largeNo kind lgk
+    unfolding largeNo
+    large-right h = through _ _ form (pass _ 20 _ (le-leb _ 12 h) done)
+
+module _ (l : List ℕ) where
+  pub file-front : {n : ℕ} → n ≡ frontNo l → (n ≡ 0 → ⊥) → n ≡ fileNo l
   unfolding fileNo
-  file-long h = stop _ 17 _ refl (lt-leb _ 40000 h)
+  file-front e h = halt _ _ e h
 
-  module _ (short : length l ≤ 40000) where
-    pub file-front : (m : ℕ) → m ≡ frontNo l → (m ≡ 0 → ⊥) → m ≡ fileNo l
-    unfolding fileNo
-    file-front m e h = pass _ 17 _ (le-leb _ 40000 short) (halt _ _ e h)
-
-    module _ (front : frontNo l ≡ 0) (s : Sketch) (is : s ≡ sketchIn l) where
-      rest : Sketch → List ℕ
-      rest s = pick (isKind (s .kind)) 0 9 ∷ lgkNo (s .«lg_k») ∷ pick (leb (s .«lg_k») 12) 0 20 ∷ []
-
-      behind : (m : ℕ) → m ≡ firstOf (rest s) → m ≡ fileNo l
-      unfolding fileNo rest
-      behind m e = pass _ 17 _ (le-leb _ 40000 short) (through _ _ front (e ∙ ap (λ (s : Sketch). firstOf (rest s)) is))
-
-      pub file-mode : isKind (s .kind) ≡ false → 9 ≡ fileNo l
-      unfolding rest
-      file-mode e = behind 9 (stop _ 9 _ refl e)
-
-      module _ (known : isKind (s .kind) ≡ true) where
-        pub file-low : s .«lg_k» < 4 → 2 ≡ fileNo l
-        unfolding rest lgkNo
-        file-low h = behind 2 (pass _ 9 _ known (stop _ 2 _ refl (lgk-low _ h)))
-
-        module _ (low : 4 ≤ s .«lg_k») where
-          pub file-high : 21 < s .«lg_k» → 2 ≡ fileNo l
-          unfolding rest lgkNo
-          file-high h = behind 2 (pass _ 9 _ known (stop _ 2 _ refl (lgk-high _ low h)))
-
-          module _ (high : s .«lg_k» ≤ 21) where
-            pub file-large : 12 < s .«lg_k» → 20 ≡ fileNo l
-            unfolding rest lgkNo
-            file-large h = behind 20 (pass _ 9 _ known (pass _ 2 _ (lgk-fits _ low high) (stop _ 20 _ refl (lt-leb _ 12 h))))
-
-            pub file-fits : s .«lg_k» ≤ 12 → 0 ≡ fileNo l
-            unfolding rest lgkNo
-            file-fits h = behind 0 (pass _ 9 _ known (pass _ 2 _ (lgk-fits _ low high) (pass _ 20 _ (le-leb _ 12 h) done)))
+  pub file-large : {n : ℕ} → frontNo l ≡ 0 → n ≡ largeNo (sketchIn l .kind) (sketchIn l .«lg_k») → n ≡ fileNo l
+  unfolding fileNo
+  file-large front e = through _ _ front (last _ e)
 
 -- what is known of an image that is opened
 pub record Fits (l : List ℕ) : Type 0 where
   pub short : length l ≤ 40000
-  pub long : 40 ≤ length l
+  pub header : headerNo l ≡ 0
   pub known : isKind (sketchIn l .kind) ≡ true
   pub low : 4 ≤ sketchIn l .«lg_k»
   pub small : sketchIn l .«lg_k» ≤ 12
 
-pub fits : (l : List ℕ) → fileNo l ≡ 0 → Fits l
+pub front-says : (l : List ℕ) → Says (frontNo l) ((length l ≤ 40000) × (headerNo l ≡ 0))
+unfolding frontNo
+front-says l = says-as _ (says-next _ _ (says-pass _ 16 (tells-le (length l) 40000)) (says-next _ _ (says-self (headerNo l)) says-last)) (λ p. search) (λ p. search)
+
+large-says : (kind lgk : ℕ) → Says (largeNo kind lgk) ((isKind kind ≡ true) × ((4 ≤ lgk) × (lgk ≤ 12)))
+unfolding largeNo
+large-says kind lgk =
+    says-as _ (says-next _ _ (form-says kind lgk) (says-next _ _ (says-pass _ 19 (tells-le lgk 12)) says-last))
+    (λ p. (p .0 .0, (p .0 .1 .0, p .1 .0))) (λ p. ((p .0, (p .1 .0, omega arith)), (p .1 .1, tt)))
+
+pub file-says : (l : List ℕ) → Says (fileNo l) (Fits l)
 unfolding fileNo
-fits l e =
-    let s = sketchIn l in
-    let p =
-    says-next _ _ (says-pass _ 16 (tells-le (length l) 40000)) (says-next _ _ (says-self (frontNo l)) (says-next _ _ (says-pass _ 8 (tells-pass (isKind (s .kind))))
-    (says-next _ _ (lgk-says (s .«lg_k»)) (says-next _ _ (says-pass _ 19 (tells-le (s .«lg_k») 12)) says-last)))) .0 e in
-    record { short = p .0; long = front-long l (p .1 .0); known = p .1 .1 .0; low = p .1 .1 .1 .0 .0; small = p .1 .1 .1 .1 .0 }
+file-says l =
+    says-as _ (says-next _ _ (front-says l) (says-next _ _ (large-says _ _) says-last))
+    (λ p. record { short = p .0 .0; header = p .0 .1; known = p .1 .0 .0; low = p .1 .0 .1 .0; small = p .1 .0 .1 .1 })
+    (λ f. ((f .short, f .header), ((f .known, (f .low, f .small)), tt)))

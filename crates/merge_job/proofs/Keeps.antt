@@ -9,13 +9,13 @@ use Rattle.model.specs.Sketch.{registers, Good}
 use Rattle.model.specs.Calls.{Out, keptOut, mergeNo, mergeOf}
 use Rattle.model.specs.declared.Sketch.{Sketch}
 use Rattle.model.proofs.Claims.{opens-good}
-use Rattle.model.proofs.Picked.{picked-no, picked-done}
-use Rattle.model.proofs.Kept.{merge-has}
+use Rattle.model.proofs.calls.Picked.{picked-no, picked-done}
+use Rattle.model.proofs.calls.Has.{merge-has}
 use Rattle.merge_job.specs.Merge.{fileNo, openedOf, joinOf, takeOf, File, unread, came, Merging, mergeAll, registersIn, joinedAll}
 use Rattle.merge_job.specs.Promised.{Target}
 
 -- what came of one that is not refused
-pub record Kept (lgk : ℕ) (R : List ℕ) (o : Out) : Type 0 where
+pub record Joined (lgk : ℕ) (R : List ℕ) (o : Out) : Type 0 where
   pub target : Target lgk (o .sketch) (o .regs)
   pub holds : registers (o .sketch) (o .regs) [] ≡ R
 
@@ -25,7 +25,7 @@ merge-no t tregs s sregs saux = picked-no (mergeNo t tregs s sregs saux) _ _ (λ
 
 module _ (lgk : ℕ) (t : Sketch) (tregs : List ℕ) (g : Target lgk t tregs) where
   merge-keeps : (s : Sketch) (sregs saux : List ℕ) → Good s sregs saux → mergeOf t tregs s sregs saux .no ≡ 0
-      → Kept lgk (joined (2 ^ lgk) (registers t tregs []) (registers s sregs saux)) (mergeOf t tregs s sregs saux)
+      → Joined lgk (joined (2 ^ lgk) (registers t tregs []) (registers s sregs saux)) (mergeOf t tregs s sregs saux)
   merge-keeps s sregs saux h e =
       let m = merge-has t tregs [] s sregs saux (g .good) h (sym (merge-no t tregs s sregs saux) ∙ e) in
       record {
@@ -33,10 +33,10 @@ module _ (lgk : ℕ) (t : Sketch) (tregs : List ℕ) (g : Target lgk t tregs) wh
         holds = m .1 .holds ∙ ap (λ (n : ℕ). joined (2 ^ n) (registers t tregs []) (registers s sregs saux)) (g .size);
       }
 
-  pub take-keeps : (l : List ℕ) → Bytes l → takeOf t tregs l .no ≡ 0 → Kept lgk (joined (2 ^ lgk) (registers t tregs []) (registersIn l)) (takeOf t tregs l)
+  pub take-keeps : (l : List ℕ) → Bytes l → takeOf t tregs l .no ≡ 0 → Joined lgk (joined (2 ^ lgk) (registers t tregs []) (registersIn l)) (takeOf t tregs l)
   unfolding takeOf joinOf registersIn openedOf
   take-keeps l b =
-      let keeps = Kept lgk (joined (2 ^ lgk) (registers t tregs []) (registersIn l)) in
+      let keeps = Joined lgk (joined (2 ^ lgk) (registers t tregs []) (registersIn l)) in
       picked-done (fileNo l) _ _ (λ (o : Out). o .no) refl keeps (λ z.
       picked-done (openedOf l .no) _ _ (λ (o : Out). o .no) refl keeps (λ y.
       merge-keeps _ _ _ (opens-good l _ _ _ b y)))

@@ -6,22 +6,26 @@ use lib.Dec.{eqb, leb}
 use lib.ListN.{length, replicate}
 use Rattle.model.specs.Pick.{pick, firstOf}
 use Rattle.model.specs.Packed.{Bytes}
-use Rattle.model.specs.Sketch.{isKind, bytesOf, registers}
+use Rattle.model.specs.Sketch.{bytesOf, registers}
 use Rattle.model.specs.Registers.{joined}
-use Rattle.model.specs.Check.{lgkNo}
-use Rattle.model.specs.Calls.{Out, out, startOf, mergeOf}
-use Rattle.model.specs.Image.{sketchIn, openOf}
+use Rattle.model.specs.Calls.{Out, refusedOut, startOf, mergeOf}
+use Rattle.model.specs.Image.{sketchIn, openOf, headerNo, formNo}
 use Rattle.model.specs.declared.Sketch.{Sketch}
-use Rattle.judge.specs.Ladder.{frontNo}
 use Rattle.job.specs.Job.{Job, jobOf}
 use Rattle.report.specs.Report.{refusedText, mergedText}
 
 -- ---- one image
--- before it is opened: LONG (17), 7 of the header and 8, 9, 2, LARGE (20)
+-- LONG (17), 7 of the header and 8
+unfoldable pub frontNo : List ℕ → ℕ
+frontNo l = firstOf (pick (leb (length l) 40000) 0 17 ∷ headerNo l ∷ [])
+
+-- 9, 2, LARGE (20)
+unfoldable pub largeNo : ℕ → ℕ → ℕ
+largeNo kind lgk = firstOf (formNo kind lgk ∷ pick (leb lgk 12) 0 20 ∷ [])
+
+-- before it is opened
 unfoldable pub fileNo : List ℕ → ℕ
-fileNo l =
-    let s = sketchIn l in
-    firstOf (pick (leb (length l) 40000) 0 17 ∷ frontNo l ∷ pick (isKind (s .kind)) 0 9 ∷ lgkNo (s .«lg_k») ∷ pick (leb (s .«lg_k») 12) 0 20 ∷ [])
+fileNo l = let s = sketchIn l in firstOf (frontNo l ∷ largeNo (s .kind) (s .«lg_k») ∷ [])
 
 -- opened, into zeros: 8,192 words of exception area and of scratch
 unfoldable pub openedOf : List ℕ → Out
@@ -29,11 +33,11 @@ openedOf l = let s = sketchIn l in openOf l (replicate (bytesOf (s .kind) (s .«
 
 -- opened and merged into the target, whose FINER comes last
 unfoldable pub joinOf : Sketch → List ℕ → List ℕ → Out
-joinOf t tregs l = let o = openedOf l in pick (eqb (o .no) 0) (mergeOf t tregs (o .sketch) (o .regs) (o .aux)) (out (o .no) t 0 tregs [])
+joinOf t tregs l = let o = openedOf l in pick (eqb (o .no) 0) (mergeOf t tregs (o .sketch) (o .regs) (o .aux)) (refusedOut (o .no) t tregs [])
 
 -- all of it
 unfoldable pub takeOf : Sketch → List ℕ → List ℕ → Out
-takeOf t tregs l = let n = fileNo l in pick (eqb n 0) (joinOf t tregs l) (out n t 0 tregs [])
+takeOf t tregs l = let n = fileNo l in pick (eqb n 0) (joinOf t tregs l) (refusedOut n t tregs [])
 
 -- ---- the files
 -- what comes of reading a file: nothing, or its bytes, at most 40,001
@@ -43,7 +47,7 @@ pub data File : Type 0 where
 
 -- a file into the target: IO (19) where it could not be read
 abbrev pub fileOf : Sketch → List ℕ → File → Out
-fileOf t tregs unread = out 19 t 0 tregs []
+fileOf t tregs unread = refusedOut 19 t tregs []
 fileOf t tregs (came l b) = takeOf t tregs l
 
 -- what the files come to: a refusal's number and the position of its file; else 0 and how many they are. The record, the registers

@@ -7,14 +7,17 @@ use lib.ListN.{length, take, drop, replicate}
 use Rattle.model.specs.Pick.{pick}
 use Rattle.model.specs.Packed.{Bytes}
 use Rattle.model.specs.Sketch.{bytesOf, Good}
-use Rattle.model.specs.Calls.{Out, out}
+use Rattle.model.specs.Calls.{Out, out, refusedOut}
 use Rattle.model.specs.Image.{imageIn, sketchIn}
 use Rattle.model.specs.declared.Sketch.{Sketch}
+use Rattle.image_header.specs.Header.{Headed}
+use Rattle.image_header.specs.declared.Header.{Header}
 use Rattle.text.specs.Text.{Holds}
 use Rattle.files.specs.declared.Got.{Got}
 use Rattle.job.specs.Job.{insIn, jobOf, placesOf}
 use Rattle.job.specs.declared.Places.{Places}
 use Rattle.report.specs.Report.{refusedText, mergedText}
+use Rattle.merge_job.specs.declared.Taken.{Taken}
 use Rattle.merge_job.specs.Merge.{takeOf, File, Merging, mergeAll, mergedOf, reportOf}
 
 -- a sketch of kind 8 in good order, and of this size
@@ -23,10 +26,14 @@ pub record Target (lgk : ℕ) (t : Sketch) (tregs : List ℕ) : Type 0 where
   pub size : t .«lg_k» ≡ lgk
   pub good : Good t tregs []
 
+-- what became of the target: number, record, register bytes
+abbrev pub takenOut : Taken → List ℕ → Out
+takenOut r tregs = out (r .no) (r .sketch) 0 tregs []
+
 -- a file came to this, where the reader says whether it failed, and how many bytes are in the buffer: IO, or what these bytes come to
 pub record Took (t : Sketch) (tregs : List ℕ) (g : Got) (image : List ℕ) (o : Out) : Type 0 where
   pub bytes : Bytes (take (g .n) image)
-  pub is : o ≡ pick (g .failed) (out 19 t 0 tregs []) (takeOf t tregs (take (g .n) image))
+  pub is : o ≡ pick (g .failed) (refusedOut 19 t tregs []) (takeOf t tregs (take (g .n) image))
 
 -- the same, whatever the reader says
 abbrev pub TookSome : Sketch → List ℕ → List ℕ → Out → Type 0
@@ -44,8 +51,9 @@ pub record Lists (l : List ℕ) (at files : ℕ) : Type 0 where
   pub ins-are : jobOf l .ins ≡ insIn 64 (drop at l)
   pub many : files ≡ length (jobOf l .ins)
 
--- the memory that an image is opened into
-pub record Lent (l regs aux scratch : List ℕ) : Type 0 where
+-- an image with its header, and the memory that it is opened into
+pub record Opened (l : List ℕ) (h : Header) (regs aux scratch : List ℕ) : Type 0 where
+  pub headed : Headed l h
   pub regs-are : regs ≡ replicate (bytesOf (sketchIn l .kind) (sketchIn l .«lg_k»)) 0
   pub aux-is : aux ≡ replicate 8192 0
   pub scratch-is : scratch ≡ replicate 8192 0

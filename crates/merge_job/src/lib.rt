@@ -1,15 +1,15 @@
 // The merge program of document 01 as a library: one run reads a job, merges its images and writes the image of all.
 use files::Got;
+use image_header::Header;
 use job::Places;
 use model::Sketch;
 ghost use mathlib.Core.Path.{_≡_};
 ghost use mathlib.Core.List.{[]};
 ghost use lib.ListN.{length, getD};
 ghost use Rattle.io.specs.Counts.{Counts};
-ghost use Rattle.model.specs.Calls.{out};
 ghost use Rattle.job.specs.Job.{jobOf, placesOf};
-ghost use Rattle.merge_job.specs.Merge.{fileNo, joinOf, takeOf, merging};
-ghost use Rattle.merge_job.specs.Promised.{Took, TookSome, Merged, Lists, Lent, Asked, Whole, Puts, Finished, Reported};
+ghost use Rattle.merge_job.specs.Merge.{frontNo, largeNo, joinOf, takeOf, merging};
+ghost use Rattle.merge_job.specs.Promised.{takenOut, Took, TookSome, Merged, Lists, Opened, Asked, Whole, Puts, Finished, Reported};
 
 // The number of a refusal, or 0, and the target's record.
 pub struct Taken {
@@ -17,30 +17,25 @@ pub struct Taken {
     pub sketch: Sketch,
 }
 
-// What is refused before an image is opened.
-fn file_no(image: &[u8]) -> u8
-    ensures { λ r. ⌜ r ≡ fileNo (now (image .entry)) ⌝ }
+// LONG, and the header's own refusals.
+fn front_no(image: &[u8]) -> u8
+    ensures { λ r. ⌜ r ≡ frontNo (now (image .entry)) ⌝ }
 {
     if 40000 < image.len() {
         return 17;
     }
-    let front = judge::front(image);
-    let no = model::number(front);
+    model::number(image_header::check(image))
+}
+
+// MODE, LGK, LARGE.
+fn large_no(kind: u8, lg_k: u8) -> u8
+    ensures { λ r. ⌜ r ≡ largeNo kind «lg_k» ⌝ }
+{
+    let no = model::number(image_check::form(kind, lg_k));
     if no != 0 {
         return no;
     }
-    let s = judge::sketch_in(image);
-    let known = judge::is_kind(s.kind);
-    if !known {
-        return 9;
-    }
-    if s.lg_k < 4 {
-        return 2;
-    }
-    if 21 < s.lg_k {
-        return 2;
-    }
-    if 12 < s.lg_k {
+    if 12 < lg_k {
         return 20;
     }
     0
@@ -50,14 +45,15 @@ fn join(
     target: Sketch,
     tregs: &mut [u8],
     image: &[u8],
+    h: Header,
     regs: &mut [u8],
     aux: &mut [u32],
     scratch: &mut [u32],
 ) -> Taken
-    requires { ⌜ Lent (now image) (now regs) (now aux) (now scratch) ⌝ }
-    ensures { λ r. ⌜ out (r .no) (r .sketch) 0 (now (tregs .exit)) [] ≡ joinOf target (now (tregs .entry)) (now (image .entry)) ⌝ }
+    requires { ⌜ Opened (now image) h (now regs) (now aux) (now scratch) ⌝ }
+    ensures { λ r. ⌜ takenOut r (now (tregs .exit)) ≡ joinOf target (now (tregs .entry)) (now (image .entry)) ⌝ }
 {
-    let made = image_open::open(image, regs, aux, scratch);
+    let made = image_load::load(image, h, regs, aux, scratch);
     let opened = made.answer;
     let no = model::number(opened);
     if no != 0 {
@@ -75,24 +71,42 @@ fn join(
 
 // Opens an image and merges it into the target. The memory is large enough for any that is not LARGE, so NO_ROOM can't occur.
 pub fn take(target: Sketch, tregs: &mut [u8], image: &[u8]) -> Taken
-    ensures { λ r. ⌜ out (r .no) (r .sketch) 0 (now (tregs .exit)) [] ≡ takeOf target (now (tregs .entry)) (now (image .entry)) ⌝ }
+    ensures { λ r. ⌜ takenOut r (now (tregs .exit)) ≡ takeOf target (now (tregs .entry)) (now (image .entry)) ⌝ }
 {
-    let no = file_no(image);
-    if no != 0 {
-        return Taken { no, sketch: target };
+    let front = front_no(image);
+    if front != 0 {
+        return Taken {
+            no: front,
+            sketch: target,
+        };
     }
-    let s = judge::sketch_in(image);
-    let n = judge::bytes_of(s.kind, s.lg_k);
+    let h = image_header::header_in(image);
+    let large = large_no(h.kind, h.lg_k);
+    if large != 0 {
+        return Taken {
+            no: large,
+            sketch: target,
+        };
+    }
+    let n = shape::bytes_of(h.kind, h.lg_k);
     let mut regs = [0u8; 4096];
     let mut aux = [0u32; 8192];
     let mut scratch = [0u32; 8192];
-    join(target, tregs, image, &mut regs[..n], &mut aux, &mut scratch)
+    join(
+        target,
+        tregs,
+        image,
+        h,
+        &mut regs[..n],
+        &mut aux,
+        &mut scratch,
+    )
 }
 
 // What came of a file. Only the bytes that came are passed on: what the buffer has behind them is not the image's.
 fn take_got(target: Sketch, tregs: &mut [u8], got: Got, image: &[u8]) -> Taken
     requires { ⌜ Counts (got .n) (now image) ⌝ }
-    ensures { λ r. ⌜ Took target (now (tregs .entry)) got (now (image .entry)) (out (r .no) (r .sketch) 0 (now (tregs .exit)) []) ⌝ }
+    ensures { λ r. ⌜ Took target (now (tregs .entry)) got (now (image .entry)) (takenOut r (now (tregs .exit))) ⌝ }
 {
     if got.failed {
         return Taken {
@@ -114,7 +128,7 @@ fn take_file(
     image: &mut [u8; 40001],
 ) -> Taken
     requires { ⌜ now path ≡ getD (jobOf (now job) .ins) i [] ⌝ }
-    ensures { λ r. ⌜ TookSome target (now (tregs .entry)) (now (image .exit)) (out (r .no) (r .sketch) 0 (now (tregs .exit)) []) ⌝ }
+    ensures { λ r. ⌜ TookSome target (now (tregs .entry)) (now (image .exit)) (takenOut r (now (tregs .exit))) ⌝ }
 {
     let got = files::load(path, image);
     take_got(target, tregs, got, image)
@@ -172,7 +186,7 @@ fn finish(sketch: Sketch, regs: &[u8], job: &[u8], places: Places, out: &mut [u8
     ensures { λ r. ⌜ Finished (places .files) (places .«lg_k») (now (regs .entry)) (now (out .exit)) r ⌝ }
 {
     let mut image = [0u8; 4136];
-    let written = image::write(sketch, regs, &[], &mut image);
+    let written = image_write::write(sketch, regs, &[], &mut image);
     let len = written.len;
     let n = job::path_in(job, places.last, b"out=");
     let from = places.last + 4;
@@ -208,7 +222,7 @@ pub fn run_job(job: &[u8], out: &mut [u8; 160]) -> usize
         return report::refused(18, 0, out);
     }
     let mut regs = [0u8; 4096];
-    let k = judge::bytes_of(8, places.lg_k);
+    let k = shape::bytes_of(8, places.lg_k);
     run_in(&mut regs[..k], job, places, out)
 }
 

@@ -1,17 +1,17 @@
 -- The claims of specs/Claims.antt, each with its proof. Assumes nothing.
 use Rattle.model.specs.Claims.{Demand1, Unchanged, Coincide, FeedKeeps, MergeKeeps, TwiceIsRoom, ExactSums, OpensGood, OpensAlike, OpensAs, ReadsOne, Reopens, Demand2, Demand3}
-use Rattle.model.proofs.Refused as refused
-use Rattle.model.proofs.Named as named
-use Rattle.model.proofs.Demand1 as lines
-use Rattle.model.proofs.OpenLines as opening
-use Rattle.model.proofs.Opening.{open-good}
-use Rattle.model.proofs.OpensAlike as passing
-use Rattle.model.proofs.OpensAs as reading
-use Rattle.model.proofs.WriteOpen.{write-open}
-use Rattle.model.proofs.Standing as standing
-use Rattle.model.proofs.Doubles as doubles
-use Rattle.model.proofs.Demands as two
-use Rattle.model.proofs.Demand3 as three
+use Rattle.model.proofs.calls.Refused as refused
+use Rattle.model.proofs.calls.Named as named
+use Rattle.model.proofs.histories.Demand1 as lines
+use Rattle.model.proofs.image.OpenLines as opening
+use Rattle.model.proofs.image.Opening.{open-good}
+use Rattle.model.proofs.image.OpensAlike as passing
+use Rattle.model.proofs.image.OpensAs as reading
+use Rattle.model.proofs.image.WriteOpen.{write-open}
+use Rattle.model.proofs.calls.Standing as standing
+use Rattle.model.proofs.calls.Doubles as doubles
+use Rattle.model.proofs.histories.Demands as two
+use Rattle.model.proofs.histories.Demand3 as three
 
 pub demand-1 : Demand1
 demand-1 = record {

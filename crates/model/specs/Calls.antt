@@ -7,6 +7,7 @@ use lib.Dec.{eqb, leb}
 use lib.Ieee.{Float}
 use lib.ListN.{length, replicate}
 use Rattle.model.specs.Pick.{pick, firstOf}
+use Rattle.model.specs.Answers.{numberOf}
 use Rattle.model.specs.Coupon.{value, home}
 use Rattle.model.specs.Registers.{raise, joined}
 use Rattle.model.specs.Table.{baseFor}
@@ -16,6 +17,9 @@ use Rattle.model.specs.Sketch.{sketchOf, recordOf, stored, areaOf, table
 use Rattle.model.specs.Check.{shapeNo, scratchFits, checkNo}
 use Rattle.model.specs.Sums.{kxq0, kxq1}
 use Rattle.model.specs.declared.Sketch.{Sketch}
+use Rattle.model.specs.declared.Answer.{Answer}
+use Rattle.model.specs.declared.Made.{Made}
+use Rattle.model.specs.declared.Fed.{Fed}
 
 -- all that a call gives back which has a sketch: number, record, count, register bytes, exception area
 pub record Out : Type 0 where
@@ -29,9 +33,25 @@ pub record Out : Type 0 where
 abbrev pub out : ℕ → Sketch → ℕ → List ℕ → List ℕ → Out
 out n s k r a = record { no = n; sketch = s; count = k; regs = r; aux = a }
 
+-- what a call gives that makes a sketch, and the memory that it leaves
+abbrev pub madeOut : Made → List ℕ → List ℕ → Out
+madeOut r regs aux = out (numberOf (r .answer)) (r .sketch) 0 regs aux
+
+-- the same of a batch
+abbrev pub fedOut : Fed → List ℕ → List ℕ → Out
+fedOut r regs aux = out (numberOf (r .answer)) (r .sketch) (r .taken) regs aux
+
+-- a refused call: its number, and all as it was
+abbrev pub refusedOut : ℕ → Sketch → List ℕ → List ℕ → Out
+refusedOut n s regs aux = out n s 0 regs aux
+
 -- the record that a refused call gives which makes one
 abbrev pub nothing : Sketch
 nothing = sketchOf 0 0 0 0 0
+
+-- and what it gives
+abbrev pub refusedMade : Answer → Made
+refusedMade a = record { answer = a; sketch = nothing }
 
 -- a sketch of these registers and this table
 unfoldable pub keptOut : ℕ → ℕ → ℕ → ℕ → State → List ℕ → Out
@@ -41,7 +61,7 @@ keptOut n kind lgk count a aux = out n (recordOf kind lgk (a .regs)) count (stor
 unfoldable pub startOf : ℕ → ℕ → List ℕ → List ℕ → Out
 startOf kind lgk regs aux =
     let n = shapeNo kind lgk (length regs) in
-    pick (eqb n 0) (keptOut 0 kind lgk 0 (state (replicate (2 ^ lgk) 0) []) aux) (out n nothing 0 regs aux)
+    pick (eqb n 0) (keptOut 0 kind lgk 0 (state (replicate (2 ^ lgk) 0) []) aux) (refusedOut n nothing regs aux)
 
 -- the registers and the table that a sketch holds
 unfoldable pub stateOf : Sketch → List ℕ → List ℕ → State
@@ -54,9 +74,9 @@ stepOf kind lgk room a c = pick (eqb kind 4) (step4 (baseFor lgk) room a c) (wen
 -- feed: the coupons in order, until one finds no room
 unfoldable pub feedOf : Sketch → List ℕ → List ℕ → List ℕ → List ℕ → Out
 feedOf s regs aux scratch coupons =
-    let n = checkNo (scratchFits (s .kind) aux scratch) s regs aux in
+    let n = checkNo (scratchFits (s .kind) (length aux) (length scratch)) s regs aux in
     let r = ran (stepOf (s .kind) (s .«lg_k») (length aux)) (stateOf s regs aux) coupons in
-    pick (eqb n 0) (keptOut (r .no) (s .kind) (s .«lg_k») (r .count) (r .state) aux) (out n s 0 regs aux)
+    pick (eqb n 0) (keptOut (r .no) (s .kind) (s .«lg_k») (r .count) (r .state) aux) (refusedOut n s regs aux)
 
 -- what unpack gives back: the number, and what the buffer then holds
 pub record Unpacked : Type 0 where
@@ -90,7 +110,7 @@ unfoldable pub mergeOf : Sketch → List ℕ → Sketch → List ℕ → List �
 mergeOf t tregs s sregs saux =
     let n = mergeNo t tregs s sregs saux in
     let R = joined (2 ^ t .«lg_k») (registers t tregs []) (registers s sregs saux) in
-    pick (eqb n 0) (keptOut 0 8 (t .«lg_k») 0 (state R []) []) (out n t 0 tregs [])
+    pick (eqb n 0) (keptOut 0 8 (t .«lg_k») 0 (state R []) []) (refusedOut n t tregs [])
 
 -- what sums gives back: the number, kxq0 and kxq1
 pub record Summed : Type 0 where

@@ -1,5 +1,5 @@
 -- Good order as the tests that a program makes, and the first four refusals. Opening an image makes most of these tests too.
-use mathlib.Core.Bool.{Bool, true, false}
+use mathlib.Core.Bool.{Bool, true}
 use mathlib.Core.List.{List, [], _∷_}
 use Prim.Native.Nat.{ℕ, _+_, _-_, _^_}
 use lib.Dec.{eqb, leb, ltb}
@@ -74,8 +74,8 @@ unfoldable pub shapeNo : ℕ → ℕ → ℕ → ℕ
 shapeNo kind lgk len = firstOf (pick (isKind kind) 0 1 ∷ lgkNo lgk ∷ sizeNo kind lgk len ∷ [])
 
 -- kind 4's scratch is no shorter than the exception area
-unfoldable pub scratchFits : ℕ → List ℕ → List ℕ → Bool
-scratchFits kind aux scratch = pick (eqb kind 4) (leb (length aux) (length scratch)) true
+unfoldable pub scratchFits : ℕ → ℕ → ℕ → Bool
+scratchFits kind aux scratch = pick (eqb kind 4) (leb aux scratch) true
 
 -- 1, 2, 3, 4 of a sketch handed in: KIND, LGK, SIZE (of the registers, and of what else the call is lent), DAMAGED
 unfoldable pub checkNo : Bool → Sketch → List ℕ → List ℕ → ℕ

@@ -8,7 +8,7 @@ use lib.IntN.{pos}
 use lib.Ieee.{Float, fin}
 use lib.Ieee.Exact.{HasValue}
 use lib.ListN.{length, getD, take}
-use Rattle.model.specs.Coupon.{value, slot, home}
+use Rattle.model.specs.Coupon.{value, home}
 use Rattle.model.specs.Registers.{fed, joined, countOf}
 use Rattle.model.specs.Packed.{Bytes}
 use Rattle.model.specs.Table.{baseFor, tableSize, Member}

@@ -2,14 +2,14 @@
 use mathlib.Core.Path.{_≡_}
 use mathlib.Core.Logic.{_⊎_}
 use mathlib.Core.List.{List, [], _∷_, map}
-use Prim.Native.Nat.{ℕ, zero, suc, _+_, _-_, _*_, _/_, _^_, _≤_, _<_, min}
-use lib.Dec.{eqb, leb, ltb}
-use lib.ListN.{length, getD, take}
+use Prim.Native.Nat.{ℕ, zero, suc, _+_, _-_, _*_, _/_, _≤_, _<_, min}
+use lib.Dec.{leb, ltb}
+use lib.ListN.{length, getD}
 use Rattle.model.specs.Pick.{pick}
 use Rattle.model.specs.Coupon.{value, slot, home, word}
-use Rattle.model.specs.Registers.{raise, least, countOf, above}
-use Rattle.model.specs.Packed.{slotAt, unpacked, packed}
-use Rattle.model.specs.Table.{wordAt, used, insert, add, keeps, made, opened, laid, sizeFor, tableSize, Member, Kept}
+use Rattle.model.specs.Registers.{raise, least, above}
+use Rattle.model.specs.Packed.{unpacked, packed}
+use Rattle.model.specs.Table.{wordAt, used, replace, insert, keeps, made, opened, sizeFor, Member, Kept}
 use Rattle.model.specs.Steps.{Step, went, stopped, onWent}
 
 -- the registers and the exception table
@@ -58,16 +58,16 @@ climbed base low (suc n) t = climbed base (suc low) n (risen base (suc low) t)
 unfoldable pub settled : ℕ → ℕ → List ℕ → List ℕ → State
 settled base low R t = state R (climbed base low (least R - low) t)
 
--- a new exception's word added to the table, or to a new one
-unfoldable pub added : ℕ → List ℕ → ℕ → List ℕ
-added base t w = add (opened base t) w
+-- a new exception's word inserted into the table, or into a new one
+unfoldable pub inserted : ℕ → List ℕ → ℕ → List ℕ
+inserted base t w = insert (opened base t) w
 
 -- value v for register s, which is below it, at cur_min low: no exception; an exception's new value; or a new exception, if the area has room for its table
 unfoldable pub put4 : ℕ → ℕ → ℕ → List ℕ → List ℕ → ℕ → ℕ → Step State
 put4 base room low R t s v =
     pick (ltb v (low + 15)) (went (state (raise R s v) t))
-    (pick (leb (low + 15) (getD R s 0)) (went (state (raise R s v) (insert t (word s v))))
-    (pick (leb (sizeFor base (suc (used t))) room) (went (state (raise R s v) (added base t (word s v)))) stopped))
+    (pick (leb (low + 15) (getD R s 0)) (went (state (raise R s v) (replace t (word s v))))
+    (pick (leb (sizeFor base (suc (used t))) room) (went (state (raise R s v) (inserted base t (word s v)))) stopped))
 
 -- a coupon: without effect unless larger; room is judged before cur_min rises
 unfoldable pub step4 : ℕ → ℕ → State → ℕ → Step State

@@ -1,19 +1,19 @@
 -- The image of a sketch, and what write and open do for every input. Little-endian throughout: fields of 32 and 64 bits are packed cells.
 use Prim.Native.Nat.{ℕ, _+_, _*_, _/_, _%_, _^_}
-use mathlib.Core.Bool.{Bool, true, false}
+use mathlib.Core.Bool.{Bool, true, not}
 use mathlib.Core.List.{List, [], _∷_, _++_, map}
 use lib.Dec.{eqb, leb}
 use lib.Ieee.{binary64, toBits}
 use lib.ListN.{length, getD, take, drop}
 use Rattle.model.specs.Pick.{pick, both, all, firstOf}
-use Rattle.model.specs.Coupon.{value, home, word}
+use Rattle.model.specs.Coupon.{value, home, word, isEmpty}
 use Rattle.model.specs.Registers.{countOf}
 use Rattle.model.specs.Packed.{slotAt, unpacked, packed}
-use Rattle.model.specs.Table.{baseFor, tableSize, keeps, made}
+use Rattle.model.specs.Table.{baseFor, tableSize, sifted, made}
 use Rattle.model.specs.Sketch.{sketchOf, isKind, bytesOf, recordOf, stored, areaOf, cells, tableIn, registers}
 use Rattle.model.specs.Check.{countsFit, valuesFit, spareFits, tallyFits, lgkNo, sizeNo, scratchFits, checkNo}
 use Rattle.model.specs.Sums.{kxq0, kxq1}
-use Rattle.model.specs.Calls.{Out, out, nothing}
+use Rattle.model.specs.Calls.{Out, out, refusedOut, nothing}
 use Rattle.model.specs.declared.Sketch.{Sketch}
 
 -- ---- the layout
@@ -41,9 +41,13 @@ unfoldable pub imageOf : ℕ → ℕ → List ℕ → List ℕ → List ℕ
 imageOf kind lgk R words = header (recordOf kind lgk R) R ++ (stored kind lgk R ++ packed 32 (4 * length words) words)
 
 -- ---- write
+-- the words that are not empty, in their order
+abbrev pub filled : List ℕ → List ℕ
+filled ws = sifted (λ w. not (isEmpty w)) ws
+
 -- the image of a sketch in good order: the exception words that are not empty, in table order
 unfoldable pub imageIn : Sketch → List ℕ → List ℕ → List ℕ
-imageIn s regs aux = imageOf (s .kind) (s .«lg_k») (registers s regs aux) (keeps 1 (tableIn s aux))
+imageIn s regs aux = imageOf (s .kind) (s .«lg_k») (registers s regs aux) (filled (tableIn s aux))
 
 -- the number, the length, and what the buffer then holds
 pub record Written : Type 0 where
@@ -93,11 +97,11 @@ wordsIn l = unpacked 32 (wordCount l) (drop (40 + bytesOf (sketchIn l .kind) (sk
 
 -- the entries among them: the second form passes over the empty ones
 unfoldable pub entriesIn : List ℕ → List ℕ
-entriesIn l = pick (compactIn l) (wordsIn l) (keeps 1 (wordsIn l))
+entriesIn l = pick (compactIn l) (wordsIn l) (filled (wordsIn l))
 
 -- an entry as the table has it: its slot modulo k
-abbrev pub taken : ℕ → ℕ → ℕ
-taken k w = word (home k w) (value w)
+abbrev pub homed : ℕ → ℕ → ℕ
+homed k w = word (home k w) (value w)
 
 -- no slot of k stands among those seen, or twice
 unfoldable pub noneTwice : ℕ → List ℕ → List ℕ → Bool
@@ -116,26 +120,57 @@ auxFits l =
     (both (eqb (length es) (s .«aux_count»))
     (eqb (countOf 15 nibbles) (s .«aux_count»))))
 
--- opening's refusals in document 01's order: 7, 8, 9, 2, 3, 10, 11, 7, 6, 12, 13, 14, 15. (Kinds 6 and 8 have no words once 10 has passed.)
-unfoldable pub openNo : List ℕ → List ℕ → List ℕ → List ℕ → ℕ
-openNo l regs aux scratch =
+-- ---- opening's refusals, in document 01's order
+-- 7, 8: a header is there, and begins as every image does
+unfoldable pub headerNo : List ℕ → ℕ
+headerNo l =
+    firstOf (pick (leb 40 (length l)) 0 7 ∷ pick (both (eqb (getD l 0 0) 10) (both (eqb (getD l 1 0) 1) (eqb (getD l 2 0) 7))) 0 8 ∷ [])
+
+-- 9, 2: a kind and a size that there are
+unfoldable pub formNo : ℕ → ℕ → ℕ
+formNo kind lgk = firstOf (pick (isKind kind) 0 9 ∷ lgkNo lgk ∷ [])
+
+-- 3: what is lent has the right size
+unfoldable pub memoryNo : ℕ → ℕ → ℕ → ℕ → ℕ → ℕ
+memoryNo kind lgk regs aux scratch = firstOf (sizeNo kind lgk regs ∷ pick (scratchFits kind aux scratch) 0 3 ∷ [])
+
+-- lg_arr is looked at in the second form alone, where it has words
+unfoldable pub lgArrFits : List ℕ → Bool
+lgArrFits l = pick (compactIn l) true (pick (eqb (sketchIn l .«aux_count») 0) true (leb (getD l 4 0) 22))
+
+-- 10, 11, 7: the counts, lg_arr, and all of the payload. (Kinds 6 and 8 have no words once 10 has passed.)
+unfoldable pub countsNo : List ℕ → ℕ
+countsNo l =
     let s = sketchIn l in
-    let count = s .«aux_count» in
+    firstOf (pick (countsFit s) 0 10 ∷ pick (lgArrFits l) 0 11 ∷ pick (leb (40 + bytesOf (s .kind) (s .«lg_k») + 4 * wordCount l) (length l)) 0 7 ∷ [])
+
+-- 6: the area has room for the table of the exceptions
+unfoldable pub roomNo : ℕ → ℕ → ℕ → ℕ
+roomNo lgk count aux = pick (leb (tableSize (baseFor lgk) count) aux) 0 6
+
+-- 12, 13, 14, 15: the registers and the exceptions
+unfoldable pub bodyNo : List ℕ → ℕ
+bodyNo l =
+    let s = sketchIn l in
     firstOf (
-    pick (leb 40 (length l)) 0 7
-    ∷ pick (both (eqb (getD l 0 0) 10) (both (eqb (getD l 1 0) 1) (eqb (getD l 2 0) 7))) 0 8
-    ∷ pick (isKind (s .kind)) 0 9
-    ∷ lgkNo (s .«lg_k»)
-    ∷ sizeNo (s .kind) (s .«lg_k») (length regs)
-    ∷ pick (scratchFits (s .kind) aux scratch) 0 3
-    ∷ pick (countsFit s) 0 10
-    ∷ pick (pick (compactIn l) true (pick (eqb count 0) true (leb (getD l 4 0) 22))) 0 11
-    ∷ pick (leb (40 + bytesOf (s .kind) (s .«lg_k») + 4 * wordCount l) (length l)) 0 7
-    ∷ pick (leb (tableSize (baseFor (s .«lg_k»)) count) (length aux)) 0 6
-    ∷ pick (valuesFit s (regsIn l)) 0 12
+    pick (valuesFit s (regsIn l)) 0 12
     ∷ pick (pick (eqb (s .kind) 4) (auxFits l) true) 0 13
     ∷ pick (spareFits s (regsIn l)) 0 14
     ∷ pick (tallyFits s (regsIn l)) 0 15
+    ∷ []
+    )
+
+-- all of them, for memory of these lengths
+unfoldable pub openNo : List ℕ → ℕ → ℕ → ℕ → ℕ
+openNo l regs aux scratch =
+    let s = sketchIn l in
+    firstOf (
+    headerNo l
+    ∷ formNo (s .kind) (s .«lg_k»)
+    ∷ memoryNo (s .kind) (s .«lg_k») regs aux scratch
+    ∷ countsNo l
+    ∷ roomNo (s .«lg_k») (s .«aux_count») aux
+    ∷ bodyNo l
     ∷ []
     )
 
@@ -143,7 +178,7 @@ openNo l regs aux scratch =
 unfoldable pub openOf : List ℕ → List ℕ → List ℕ → List ℕ → Out
 openOf l regs aux scratch =
     let s = sketchIn l in
-    let n = openNo l regs aux scratch in
+    let n = openNo l (length regs) (length aux) (length scratch) in
     pick (eqb n 0)
-    (out 0 s 0 (regsIn l) (areaOf (s .kind) (made (baseFor (s .«lg_k»)) (map (taken (2 ^ s .«lg_k»)) (entriesIn l))) aux))
-    (out n nothing 0 regs aux)
+    (out 0 s 0 (regsIn l) (areaOf (s .kind) (made (baseFor (s .«lg_k»)) (map (homed (2 ^ s .«lg_k»)) (entriesIn l))) aux))
+    (refusedOut n nothing regs aux)

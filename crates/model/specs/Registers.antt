@@ -1,10 +1,9 @@
 -- A sketch means a list of k registers, each 0 to 63. This is what coupons and merges do to it, and what is counted of it.
 use Prim.Native.Nat.{ℕ, suc, min, max, _%_}
 use mathlib.Core.List.{List, [], _∷_}
-use mathlib.Core.Bool.{Bool, true}
 use lib.ListN.{getD, set}
-use lib.Dec.{eqb, leb, ltb}
-use Rattle.model.specs.Pick.{pick, both}
+use lib.Dec.{eqb, leb}
+use Rattle.model.specs.Pick.{pick}
 use Rattle.model.specs.Coupon.{value, home}
 
 -- register s raised to v, if v is larger

@@ -9,7 +9,7 @@ use Rattle.model.specs.Pick.{pick}
 use Rattle.model.specs.Registers.{least, countOf, above}
 use Rattle.model.specs.Packed.{unpacked, packed}
 use Rattle.model.specs.Table.{baseFor, tableSize, laid}
-use Rattle.model.specs.Four.{State, state, storedAt, registers4, TableAt}
+use Rattle.model.specs.Four.{storedAt, registers4, TableAt}
 use Rattle.model.specs.declared.Sketch.{Sketch}
 
 -- a record, by its fields

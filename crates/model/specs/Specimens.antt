@@ -2,13 +2,12 @@
 use mathlib.Core.Path.{_≡_}
 use mathlib.Core.List.{List, [], _∷_, _++_, map}
 use Prim.Native.Nat.{ℕ, zero, suc}
-use lib.ListN.{length, getD, take, replicate}
+use lib.ListN.{length, take, replicate}
 use Rattle.model.specs.Coupon.{word}
-use Rattle.model.specs.Registers.{countOf}
-use Rattle.model.specs.Sketch.{bytesOf, registers}
+use Rattle.model.specs.Sketch.{bytesOf}
 use Rattle.model.specs.Sums.{scaled}
 use Rattle.model.specs.Calls.{Out, startOf, feedOf, mergeOf}
-use Rattle.model.specs.Image.{Written, writeOf}
+use Rattle.model.specs.Image.{writeOf}
 
 -- slots s, s + 1, .., n of them, at v
 unfoldable pub at : ℕ → ℕ → ℕ → List ℕ

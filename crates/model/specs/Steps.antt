@@ -1,5 +1,5 @@
 -- A batch that may stop: the coupons in order, until one finds no room.
-use Prim.Native.Nat.{ℕ, suc, _+_}
+use Prim.Native.Nat.{ℕ, suc}
 use mathlib.Core.List.{List, [], _∷_}
 
 -- a coupon taken, with the state after it; or no room for it

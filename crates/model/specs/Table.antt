@@ -4,7 +4,7 @@ use mathlib.Core.Bool.{Bool, true}
 use mathlib.Core.List.{List, [], _∷_, _++_}
 use Prim.Native.Nat.{ℕ, suc, _+_, _-_, _*_, _/_, _%_, _^_, _≤_, _<_}
 use lib.Dec.{eqb, leb}
-use lib.ListN.{length, getD, set, take, replicate}
+use lib.ListN.{length, getD, set, replicate}
 use Rattle.model.specs.Pick.{pick, first}
 use Rattle.model.specs.Coupon.{value, slot}
 
@@ -60,36 +60,40 @@ used [] = 0
 used (w ∷ ws) = let r = used ws in pick (eqb w 0) r (suc r)
 
 -- a word put where the search for its slot ends: a new word, or a replaced one
-unfoldable pub insert : List ℕ → ℕ → List ℕ
-insert t w = set t (place t (slot w)) w
+unfoldable pub replace : List ℕ → ℕ → List ℕ
+replace t w = set t (place t (slot w)) w
 
 -- the words of a list re-inserted in order, the empty ones passed over
 unfoldable pub refill : List ℕ → List ℕ → List ℕ
 refill into [] = into
-refill into (w ∷ ws) = refill (pick (eqb w 0) into (insert into w)) ws
+refill into (w ∷ ws) = refill (pick (eqb w 0) into (replace into w)) ws
 
 -- growth: re-inserted in table order into a table twice the size
 unfoldable pub grown : List ℕ → List ℕ
 grown t = refill (replicate (length t + length t) 0) t
 
--- a new word: inserted first; then the table grows, if more than three quarters are used
-unfoldable pub add : List ℕ → ℕ → List ℕ
-add t w = let i = insert t w in pick (leb (4 * used i) (3 * length t)) i (grown i)
+-- a new word: put in first; then the table grows, if more than three quarters are used
+unfoldable pub insert : List ℕ → ℕ → List ℕ
+insert t w = let i = replace t w in pick (leb (4 * used i) (3 * length t)) i (grown i)
 
--- words added one after the other
-unfoldable pub adds : List ℕ → List ℕ → List ℕ
-adds t [] = t
-adds t (w ∷ ws) = adds (add t w) ws
+-- words inserted one after the other
+unfoldable pub inserts : List ℕ → List ℕ → List ℕ
+inserts t [] = t
+inserts t (w ∷ ws) = inserts (insert t w) ws
 
--- the words whose value is at least the limit, in their order
-unfoldable pub keeps : ℕ → List ℕ → List ℕ
-keeps limit [] = []
-keeps limit (w ∷ ws) = let r = keeps limit ws in pick (leb limit (value w)) (w ∷ r) r
+-- the words that pass a test, in their order
+unfoldable pub sifted : (ℕ → Bool) → List ℕ → List ℕ
+sifted p [] = []
+sifted p (w ∷ ws) = let r = sifted p ws in pick (p w) (w ∷ r) r
+
+-- those whose value is at least the limit
+abbrev pub keeps : ℕ → List ℕ → List ℕ
+keeps limit ws = sifted (λ w. leb limit (value w)) ws
 
 -- a table made of a list of words, from the base on, growing on the way; no words where there is none
 abbrev pub made : ℕ → List ℕ → List ℕ
 made base [] = []
-made base (w ∷ ws) = adds (replicate base 0) (w ∷ ws)
+made base (w ∷ ws) = inserts (replicate base 0) (w ∷ ws)
 
 -- the table for one word more: a new one where there was none
 abbrev pub opened : ℕ → List ℕ → List ℕ
@@ -112,6 +116,12 @@ pub record Room (t : List ℕ) : Type 0 where
   pub hole : ℕ
   pub inside : hole < length t
   pub hollow : getD t hole 0 ≡ 0
+
+-- what a table can be made of: words of different slots, none of them 0
+pub record Makable (ws : List ℕ) : Type 0 where
+  pub few : length ws < 2 ^ 26
+  pub some : (x : ℕ) → Member ws x → x ≡ 0 → ⊥
+  pub distinct : (i j : ℕ) → i < length ws → j < length ws → slot (getD ws i 0) ≡ slot (getD ws j 0) → i ≡ j
 
 -- each word is where the search for its slot ends: so no slot stands twice
 unfoldable pub Reached : List ℕ → Type 0

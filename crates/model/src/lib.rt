@@ -1,6 +1,7 @@
-// The code of the book: the record of a sketch and the answers of the table of refusals. All else here is specs/ and proofs/.
+// The code of the book: the record of a sketch, the answers of the table of refusals, and what calls give. All else here is specs/ and proofs/.
 ghost use mathlib.Core.Path.{_≡_};
 ghost use Rattle.model.specs.Answers.{numberOf};
+ghost use Rattle.model.specs.Calls.{refusedMade};
 
 // Any values may stand here: a call refuses what is not in good order.
 pub struct Sketch {
@@ -29,6 +30,35 @@ pub enum Answer {
     Spare,
     Tally,
     Out,
+}
+
+// What a call gives that makes a sketch or changes one by value.
+pub struct Made {
+    pub answer: Answer,
+    pub sketch: Sketch,
+}
+
+// The same of a batch, with how many coupons were taken.
+pub struct Fed {
+    pub answer: Answer,
+    pub sketch: Sketch,
+    pub taken: usize,
+}
+
+// A refusal of a call that makes a sketch: its record is of zeros.
+pub fn refused(answer: Answer) -> Made
+    ensures { λ r. ⌜ r ≡ refusedMade answer ⌝ }
+{
+    Made {
+        answer,
+        sketch: Sketch {
+            kind: 0,
+            lg_k: 0,
+            cur_min: 0,
+            num_at_cur_min: 0,
+            aux_count: 0,
+        },
+    }
 }
 
 // The answer's number in the table of refusals.

@@ -195,7 +195,7 @@ pub fn has_image(held: Held, said: &[u8], upto: usize) -> bool {
     let aux = held.aux;
     let mut out = [0u8; 16384];
     let n = same::clipped(size_of(s.kind, s.lg_k), &regs);
-    let written = image::write(s, &regs[..n], &aux, &mut out);
+    let written = image_write::write(s, &regs[..n], &aux, &mut out);
     let answer = written.answer;
     if model::number(answer) != 0 || written.len != said.len() {
         return false;

@@ -93,7 +93,7 @@ fn most_of(regs: &[u8]) -> u8
     let mut seen = 0u8;
     let mut i = 0;
     while i < regs.len() {
-        seen = array8::larger(seen, regs[i]);
+        seen = packed::eight::larger(seen, regs[i]);
         i += 1;
     }
     seen

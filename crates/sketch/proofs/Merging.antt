@@ -7,26 +7,25 @@ use Prim.Native.Nat.{ℕ, _*_, _^_, _≤_, _<_}
 use native.Mathlib.Omega.{arith}
 use lib.ListN.{length, take, drop}
 use lib.Pow.{pow-mono}
-use borrow.Author.Tests.{eq-eqb, ne-eqb, lt-leb}
-use Rattle.model.specs.Pick.{firstOf}
+use borrow.Author.Tests.{eq-eqb, ne-eqb}
 use Rattle.model.specs.Registers.{fed, joined, countOf}
 use Rattle.model.specs.Packed.{Bytes, unpacked}
 use Rattle.model.specs.Sketch.{sketchOf, areaOf, floors, tableIn, registers, Good}
 use Rattle.model.specs.Check.{checkNo}
-use Rattle.model.specs.Calls.{out, keptOut, eightNo, mergeNo, mergeOf}
+use Rattle.model.specs.Calls.{out, refusedOut, keptOut, eightNo, mergeNo, mergeOf}
 use Rattle.model.specs.declared.Sketch.{Sketch}
-use Rattle.model.proofs.ByteLists.{at-all}
-use Rattle.model.proofs.Raising.{Small, length-poured, poured-small}
-use Rattle.model.proofs.Packing.{unpacked-8}
-use Rattle.model.proofs.Plain.{bytes-8}
-use Rattle.model.proofs.Kept.{check-ok, eight-says, merge-says}
-use Rattle.model.proofs.Floors.{floors-words, fed-floors, good-floored}
+use Rattle.model.proofs.packing.ByteLists.{at-all}
+use Rattle.model.proofs.registers.Raising.{Small, length-poured, poured-small}
+use Rattle.model.proofs.packing.Packing.{unpacked-8}
+use Rattle.model.proofs.order.Plain.{bytes-8}
+use Rattle.model.proofs.calls.Has.{check-ok, eight-says, merge-says}
+use Rattle.model.proofs.registers.Floors.{floors-words, fed-floors, good-floored}
 use Rattle.array8.specs.Asked.{Power, Finer}
 use Rattle.survey_whole.specs.Whole.{Cells}
 use Rattle.blocks.specs.Asked.{Floor, Pourable, Worded}
 use Rattle.blocks.proofs.Levels.{good-level, whole-floor, whole-floors, good-worded}
-use Rattle.checks.proofs.Rungs.{rung-no, rung-ok}
-use Rattle.checks.proofs.ByKind.{eight-long}
+use Rattle.model.proofs.calls.Rungs.{no-target, no-source, no-finer}
+use Rattle.sketch_check.proofs.ByKind.{eight-long}
 use Rattle.sketch.specs.Asked.{Unpackable, Joinable}
 use Rattle.sketch.proofs.PlainKept.{eight-kept}
 
@@ -70,23 +69,19 @@ pub record Accepted (t : Sketch) (tregs : List ℕ) (s : Sketch) (sregs saux : L
   pub sbytes : Bytes sregs
 
 module _ (t : Sketch) (tregs : List ℕ) (s : Sketch) (sregs saux : List ℕ) where
-  merge-no : {n : ℕ} → n ≡ mergeNo t tregs s sregs saux → (n ≡ 0 → ⊥) → out n t 0 tregs [] ≡ mergeOf t tregs s sregs saux
+  merge-no : {n : ℕ} → n ≡ mergeNo t tregs s sregs saux → (n ≡ 0 → ⊥) → refusedOut n t tregs [] ≡ mergeOf t tregs s sregs saux
   unfolding mergeOf
   merge-no {n} e h = rw (← e, ne-eqb n 0 h)
 
-  pub merge-target : {n : ℕ} → n ≡ eightNo t tregs → (n ≡ 0 → ⊥) → out n t 0 tregs [] ≡ mergeOf t tregs s sregs saux
-  unfolding mergeNo
-  merge-target e h = merge-no (e ∙ rung-no (eightNo t tregs) _ (λ z. h (e ∙ z))) h
+  pub merge-target : {n : ℕ} → n ≡ eightNo t tregs → (n ≡ 0 → ⊥) → refusedOut n t tregs [] ≡ mergeOf t tregs s sregs saux
+  merge-target e h = merge-no (no-target t tregs s sregs saux e h) h
 
   module _ (target : eightNo t tregs ≡ 0) where
-    pub merge-source : {n : ℕ} → n ≡ checkNo true s sregs saux → (n ≡ 0 → ⊥) → out n t 0 tregs [] ≡ mergeOf t tregs s sregs saux
-    unfolding mergeNo
-    merge-source e h = merge-no (e ∙ rung-no (checkNo true s sregs saux) _ (λ z. h (e ∙ z)) ∙ rung-ok (eightNo t tregs) _ target) h
+    pub merge-source : {n : ℕ} → n ≡ checkNo true s sregs saux → (n ≡ 0 → ⊥) → refusedOut n t tregs [] ≡ mergeOf t tregs s sregs saux
+    merge-source e h = merge-no (no-source t tregs s sregs saux target e h) h
 
-    module _ (source : checkNo true s sregs saux ≡ 0) where
-      pub merge-finer : s .«lg_k» < t .«lg_k» → out 5 t 0 tregs [] ≡ mergeOf t tregs s sregs saux
-      unfolding mergeNo firstOf
-      merge-finer h = merge-no (rw (eq-eqb (eightNo t tregs) 0 target, eq-eqb (checkNo true s sregs saux) 0 source, lt-leb (t .«lg_k») (s .«lg_k») h)) (λ e. omega arith)
+    pub merge-finer : checkNo true s sregs saux ≡ 0 → s .«lg_k» < t .«lg_k» → refusedOut 5 t tregs [] ≡ mergeOf t tregs s sregs saux
+    merge-finer source h = merge-no (no-finer t tregs s sregs saux target source h) (λ e. omega arith)
 
 module _ {t : Sketch} {tregs : List ℕ} {s : Sketch} {sregs saux : List ℕ} (ok : Accepted t tregs s sregs saux) where
   of-target : Good t tregs []

@@ -1,33 +1,34 @@
 -- Each outcome of start, view, feed and unpack, by one law: what the code has found there, and so what the call's definition gives. Assumes nothing.
-use mathlib.Core.Path.{_≡_, refl, sym, ap, _∙_}
-use mathlib.Core.Bool.{Bool, true}
-use mathlib.Core.List.{List, [], _∷_}
+use mathlib.Core.Path.{_≡_, sym, ap, _∙_}
+use mathlib.Core.Bool.{Bool}
+use mathlib.Core.List.{List, []}
 use mathlib.Core.Logic.{_⊎_, inl, inr, ⊎-elim}
 use Prim.Native.Nat.{ℕ, _^_, _≤_}
 use lib.Dec.{eqb}
 use lib.ListN.{length, replicate}
-use borrow.Author.Tests.{eq-eqb, ne-eqb, leb-true}
+use borrow.Author.Tests.{eq-eqb, ne-eqb}
 use Rattle.model.specs.Registers.{fed}
 use Rattle.model.specs.Packed.{Bytes}
 use Rattle.model.specs.Steps.{Ran, ran}
 use Rattle.model.specs.Four.{State, state}
 use Rattle.model.specs.Sketch.{sketchOf, areaOf, registers, tableIn}
-use Rattle.model.specs.Check.{goodOf, shapeNo, scratchFits, checkNo}
-use Rattle.model.specs.Calls.{Out, out, keptOut, startOf, stateOf, stepOf, feedOf, unpackedTo, unpackOf, eightNo}
+use Rattle.model.specs.Check.{shapeNo, scratchFits, checkNo}
+use Rattle.model.specs.Calls.{Out, out, refusedOut, nothing, keptOut, startOf, stateOf, stepOf, feedOf, unpackedTo, unpackOf}
 use Rattle.model.specs.declared.Sketch.{Sketch}
-use Rattle.model.proofs.Ladder.{shape-says, check-says, first-one}
-use Rattle.model.proofs.Plain.{plain-cells}
-use Rattle.model.proofs.Starting.{record-zeros, stored-zeros, plain-ran}
-use Rattle.model.proofs.Kept.{check-ok, feed-line}
-use Rattle.checks.proofs.Rungs.{rung-ok}
+use Rattle.model.proofs.calls.Ladder.{shape-says, check-says}
+use Rattle.model.proofs.order.Tests.{scratch-asks}
+use Rattle.model.proofs.calls.Rungs.{plain-area}
+use Rattle.model.proofs.order.Plain.{plain-cells}
+use Rattle.model.proofs.calls.Starting.{record-zeros, stored-zeros, plain-ran}
+use Rattle.model.proofs.calls.Has.{check-ok, feed-line}
 use Rattle.sketch.specs.Asked.{Plain}
-use Rattle.sketch.specs.Given.{Kept}
+use Rattle.sketch.specs.Given.{KeptAs}
 
 -- ---- start
 module _ (kind lgk : ℕ) (regs aux : List ℕ) where
-  pub start-no : {n : ℕ} {s : Sketch} → n ≡ shapeNo kind lgk (length regs) → (n ≡ 0 → ⊥) → s ≡ sketchOf 0 0 0 0 0 → out n s 0 regs aux ≡ startOf kind lgk regs aux
+  pub start-no : {n : ℕ} → n ≡ shapeNo kind lgk (length regs) → (n ≡ 0 → ⊥) → refusedOut n nothing regs aux ≡ startOf kind lgk regs aux
   unfolding startOf
-  start-no {n} e h q = rw (q, ← e, ne-eqb n 0 h)
+  start-no {n} e h = rw (← e, ne-eqb n 0 h)
 
   pub start-ok : {s : Sketch} {k : ℕ} {after area : List ℕ} → shapeNo kind lgk (length regs) ≡ 0 → k ≡ 2 ^ lgk → s ≡ sketchOf kind lgk 0 k 0 → after ≡ replicate (length regs) 0 → area ≡ areaOf kind [] aux
       → out 0 s 0 after area ≡ startOf kind lgk regs aux
@@ -36,30 +37,19 @@ module _ (kind lgk : ℕ) (regs aux : List ℕ) where
       rw (q, k, r, a, eq-eqb (shapeNo kind lgk (length regs)) 0 e, record-zeros kind lgk, stored-zeros kind lgk)
       (ap (λ (n : ℕ). out 0 (sketchOf kind lgk 0 (2 ^ lgk) 0) 0 (replicate n 0) (areaOf kind [] aux)) (shape-says kind lgk (length regs) .0 e .long))
 
--- ---- kind 8's own check
-pub eight-check : (s : Sketch) (regs : List ℕ) → s .kind ≡ 8 → checkNo true s regs [] ≡ eightNo s regs
-unfolding eightNo
-eight-check s regs e = rw (eq-eqb (s .kind) 8 e) (sym (first-one (checkNo true s regs [])) ∙ rung-ok 0 (checkNo true s regs [] ∷ []) refl)
-
 -- ---- feed
--- kinds 6 and 8 have no area that could be damaged
-plain-area : (s : Sketch) (regs aux : List ℕ) → (s .kind ≡ 4 → ⊥) → goodOf s regs [] ≡ goodOf s regs aux
-unfolding goodOf
-plain-area s regs aux h = rw (ne-eqb (s .kind) 4 h)
-
-module _ (s : Sketch) (regs aux scratch : List ℕ) {fits : Bool} (lent : fits ≡ scratchFits (s .kind) aux scratch) where
-  pub feed-no : (cs : List ℕ) {n : ℕ} → n ≡ checkNo fits s regs aux → (n ≡ 0 → ⊥) → out n s 0 regs aux ≡ feedOf s regs aux scratch cs
+module _ (s : Sketch) (regs aux scratch : List ℕ) {fits : Bool} (lent : fits ≡ scratchFits (s .kind) (length aux) (length scratch)) where
+  pub feed-no : (cs : List ℕ) {n : ℕ} → n ≡ checkNo fits s regs aux → (n ≡ 0 → ⊥) → refusedOut n s regs aux ≡ feedOf s regs aux scratch cs
   unfolding feedOf
   feed-no cs {n} e h = rw (← lent, ← e, ne-eqb n 0 h)
 
   module _ (e : checkNo fits s regs aux ≡ 0) where
     -- what kind 4's own feed asks, and what the others' does
     pub four-spare : s .kind ≡ 4 → length aux ≤ length scratch
-    unfolding scratchFits
-    four-spare k = leb-true (length aux) (length scratch) (rw (lent, eq-eqb (s .kind) 4 k) at (check-says fits s regs aux .0 e .1 .0))
+    four-spare k = scratch-asks _ _ _ (sym lent ∙ check-says fits s regs aux .0 e .1 .0) k
 
     pub can-plain : (s .kind ≡ 4 → ⊥) → Plain s regs
-    can-plain k = let h = check-says fits s regs aux .0 e in record { not-4 = k; shaped = h .0; good = plain-area s regs aux k ∙ h .1 .1 }
+    can-plain k = let h = check-says fits s regs aux .0 e in record { not-4 = k; shaped = h .0; good = plain-area s regs [] aux k ∙ h .1 .1 }
 
     module _ (cs : List ℕ) where
       abbrev batch : ℕ → Ran State
@@ -83,7 +73,7 @@ module _ (s : Sketch) (regs aux scratch : List ℕ) {fits : Bool} (lent : fits �
           ⊎-elim (λ x. inl (n ∙ x .0)) (λ x. inr (n ∙ x .0)) (feed-line s regs aux scratch cs (check-ok fits s regs aux b e))
 
       -- kinds 6 and 8: every coupon is taken
-      pub feed-plain : (s .kind ≡ 4 → ⊥) → {r : Sketch} {after : List ℕ} → Kept (s .kind) (s .«lg_k») (fed (2 ^ s .«lg_k») (registers s regs []) cs) r after
+      pub feed-plain : (s .kind ≡ 4 → ⊥) → {r : Sketch} {after : List ℕ} → KeptAs (s .kind) (s .«lg_k») (fed (2 ^ s .«lg_k») (registers s regs []) cs) r after
           → out 0 r (length cs) after aux ≡ feedOf s regs aux scratch cs
       unfolding keptOut stateOf areaOf
       feed-plain k q =

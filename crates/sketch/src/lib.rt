@@ -1,6 +1,8 @@
 // The public calls over a sketch whose record goes in and comes out by value: start, view, feed, unpack, merge. No call asks for anything:
 // each contract is one equation, which fixes the answer, the record, the count and all lent memory but scratch, for every input.
 use model::Answer;
+use model::Fed;
+use model::Made;
 use model::Sketch;
 ghost use mathlib.Core.Path.{_≡_};
 ghost use mathlib.Core.Bool.{true};
@@ -8,25 +10,14 @@ ghost use mathlib.Core.List.{[]};
 ghost use mathlib.Core.Logic.{_⊎_};
 ghost use Prim.Native.Nat.{_^_};
 ghost use lib.Dec.{eqb, leb};
-ghost use lib.ListN.{length, replicate};
+ghost use lib.ListN.{length};
 ghost use Rattle.model.specs.Answers.{numberOf};
 ghost use Rattle.model.specs.Pick.{pick};
 ghost use Rattle.model.specs.Registers.{fed, joined};
 ghost use Rattle.model.specs.Sketch.{sketchOf, areaOf, registers};
-ghost use Rattle.model.specs.Calls.{out, startOf, feedOf, unpackedTo, unpackOf, eightNo, viewOf, mergeOf};
+ghost use Rattle.model.specs.Calls.{madeOut, fedOut, startOf, feedOf, unpackedTo, unpackOf, eightNo, viewOf, mergeOf};
 ghost use Rattle.sketch.specs.Asked.{Plain, Unpackable, Joinable};
-ghost use Rattle.sketch.specs.Given.{Kept};
-
-pub struct Made {
-    pub answer: Answer,
-    pub sketch: Sketch,
-}
-
-pub struct Fed {
-    pub answer: Answer,
-    pub sketch: Sketch,
-    pub taken: usize,
-}
+ghost use Rattle.sketch.specs.Given.{KeptAs};
 
 // A record that says only how many registers are zero: of kinds 6 and 8, and of an empty sketch.
 fn plain(kind: u8, lg_k: u8, zeros: u32) -> Sketch
@@ -41,16 +32,6 @@ fn plain(kind: u8, lg_k: u8, zeros: u32) -> Sketch
     }
 }
 
-fn zero(regs: &mut [u8])
-    ensures { λ _. ⌜ now (regs .exit) ≡ replicate (length (now (regs .entry))) 0 ⌝ }
-{
-    let mut at = 0;
-    while at < regs.len() {
-        regs[at] = 0;
-        at += 1;
-    }
-}
-
 // Kinds 6 and 8 leave the exception area alone.
 fn clear_area(kind: u8, aux: &mut [u32])
     ensures { λ _. ⌜ now (aux .exit) ≡ areaOf kind [] (now (aux .entry)) ⌝ }
@@ -62,17 +43,14 @@ fn clear_area(kind: u8, aux: &mut [u32])
 }
 
 pub fn start(kind: u8, lg_k: u8, regs: &mut [u8], aux: &mut [u32]) -> Made
-    ensures { λ r. ⌜ out (numberOf (r .answer)) (r .sketch) 0 (now (regs .exit)) (now (aux .exit)) ≡ startOf kind «lg_k» (now (regs .entry)) (now (aux .entry)) ⌝ }
+    ensures { λ r. ⌜ madeOut r (now (regs .exit)) (now (aux .exit)) ≡ startOf kind «lg_k» (now (regs .entry)) (now (aux .entry)) ⌝ }
 {
-    let answer = checks::shape(kind, lg_k, regs.len());
+    let answer = sketch_check::check_shape(kind, lg_k, regs.len());
     if model::number(answer) != 0 {
-        return Made {
-            answer,
-            sketch: plain(0, 0, 0),
-        };
+        return model::refused(answer);
     }
-    let k = array8::num_registers(lg_k);
-    zero(regs);
+    let k = shape::num_registers(lg_k);
+    packed::eight::clear(regs);
     clear_area(kind, aux);
     Made {
         answer: Answer::Ok,
@@ -81,40 +59,30 @@ pub fn start(kind: u8, lg_k: u8, regs: &mut [u8], aux: &mut [u32]) -> Made
 }
 
 // Whether a sketch is of kind 8 and in good order. It is lent no exception area, and needs none.
-fn eight(s: Sketch, regs: &[u8]) -> Answer
+fn check_eight(s: Sketch, regs: &[u8]) -> Answer
     ensures { λ r. ⌜ numberOf r ≡ eightNo s (now (regs .entry)) ⌝ }
 {
     if s.kind != 8 {
         return Answer::Kind;
     }
-    checks::check(true, s, regs, &[])
+    sketch_check::check(true, s, regs, &[])
 }
 
 // The lent registers themselves, uncopied: the reference handed in. Where a check refuses, an empty part of it.
 pub fn view(sketch: Sketch, regs: &[u8]) -> &[u8]
     ensures { λ r. ⌜ (now r ≡ viewOf sketch (now (regs .entry))) × (eightNo sketch (now (regs .entry)) ≡ 0 → r ≡ regs .entry) ⌝ }
 {
-    let answer = eight(sketch, regs);
+    let answer = check_eight(sketch, regs);
     if model::number(answer) != 0 {
         return &regs[..0];
     }
     array8::values(regs)
 }
 
-// Only kind 4 uses the scratch.
-fn scratch_fits(kind: u8, needed: usize, lent: usize) -> bool
-    ensures { λ r. ⌜ r ≡ pick (eqb kind 4) (leb needed lent) true ⌝ }
-{
-    if kind != 4 {
-        return true;
-    }
-    needed <= lent
-}
-
 // Kinds 6 and 8 take every coupon.
 fn feed_plain(s: Sketch, regs: &mut [u8], coupons: &[u32]) -> Sketch
     requires { ⌜ Plain s (now regs) ⌝ }
-    ensures { λ r. ⌜ Kept (s .kind) (s .«lg_k») (fed (2 ^ s .«lg_k») (registers s (now (regs .entry)) []) (now (coupons .entry))) r (now (regs .exit)) ⌝ }
+    ensures { λ r. ⌜ KeptAs (s .kind) (s .«lg_k») (fed (2 ^ s .«lg_k») (registers s (now (regs .entry)) []) (now (coupons .entry))) r (now (regs .exit)) ⌝ }
 {
     let lg_k = s.lg_k;
     let zeros = s.num_at_cur_min;
@@ -144,10 +112,10 @@ pub fn feed(
     scratch: &mut [u32],
     coupons: &[u32],
 ) -> Fed
-    ensures { λ r. ⌜ out (numberOf (r .answer)) (r .sketch) (r .taken) (now (regs .exit)) (now (aux .exit)) ≡ feedOf sketch (now (regs .entry)) (now (aux .entry)) (now (scratch .entry)) (now (coupons .entry)) ⌝ }
+    ensures { λ r. ⌜ fedOut r (now (regs .exit)) (now (aux .exit)) ≡ feedOf sketch (now (regs .entry)) (now (aux .entry)) (now (scratch .entry)) (now (coupons .entry)) ⌝ }
 {
-    let fits = scratch_fits(sketch.kind, aux.len(), scratch.len());
-    let answer = checks::check(fits, sketch, regs, aux);
+    let fits = shape::scratch_fits(sketch.kind, aux.len(), scratch.len());
+    let answer = sketch_check::check(fits, sketch, regs, aux);
     if model::number(answer) != 0 {
         return Fed {
             answer,
@@ -195,7 +163,7 @@ pub fn unpack(sketch: Sketch, regs: &[u8], aux: &[u32], out: &mut [u8]) -> Answe
     ensures { λ r. ⌜ unpackedTo (numberOf r) (now (out .exit)) ≡ unpackOf sketch (now (regs .entry)) (now (aux .entry)) (now (out .entry)) ⌝ }
 {
     let fits = is_count(out.len(), sketch.lg_k);
-    let answer = checks::check(fits, sketch, regs, aux);
+    let answer = sketch_check::check(fits, sketch, regs, aux);
     if model::number(answer) != 0 {
         return answer;
     }
@@ -229,16 +197,16 @@ fn join(s: Sketch, regs: &[u8], aux: &[u32], target: &mut [u8])
 }
 
 pub fn merge(target: Sketch, tregs: &mut [u8], source: Sketch, sregs: &[u8], saux: &[u32]) -> Made
-    ensures { λ r. ⌜ out (numberOf (r .answer)) (r .sketch) 0 (now (tregs .exit)) [] ≡ mergeOf target (now (tregs .entry)) source (now (sregs .entry)) (now (saux .entry)) ⌝ }
+    ensures { λ r. ⌜ madeOut r (now (tregs .exit)) [] ≡ mergeOf target (now (tregs .entry)) source (now (sregs .entry)) (now (saux .entry)) ⌝ }
 {
-    let mine = eight(target, tregs);
+    let mine = check_eight(target, tregs);
     if model::number(mine) != 0 {
         return Made {
             answer: mine,
             sketch: target,
         };
     }
-    let theirs = checks::check(true, source, sregs, saux);
+    let theirs = sketch_check::check(true, source, sregs, saux);
     if model::number(theirs) != 0 {
         return Made {
             answer: theirs,

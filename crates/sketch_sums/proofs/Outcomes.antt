@@ -1,4 +1,4 @@
--- Kind 8's registers as the counts ask for them, the counts of what is in good order, and the two outcomes of sums. Assumes nothing.
+-- Kind 8's registers as the counts ask for them, and the two outcomes of sums. Assumes nothing.
 use mathlib.Core.Path.{_≡_}
 use mathlib.Core.Bool.{true, false}
 use mathlib.Core.List.{List}
@@ -13,18 +13,14 @@ use Rattle.model.specs.Check.{checkNo}
 use Rattle.model.specs.Sums.{scaled}
 use Rattle.model.specs.Calls.{Summed, sumsOf}
 use Rattle.model.specs.declared.Sketch.{Sketch}
-use Rattle.model.proofs.Plain.{bytes-8}
-use Rattle.model.proofs.Kept.{registers-long}
-use Rattle.sums.specs.Tally.{Counted, FewCounted, Registers, sumsFor}
-use Rattle.model.proofs.Doubles.{ratio-zero}
-use Rattle.checks.proofs.ByKind.{eight-long}
+use Rattle.model.proofs.order.Plain.{bytes-8}
+use Rattle.sums.specs.Tally.{Registers, sumsFor}
+use Rattle.model.proofs.calls.Doubles.{ratio-zero}
+use Rattle.sketch_check.proofs.ByKind.{eight-long}
 
 module _ (s : Sketch) (regs aux : List ℕ) where
   pub eight-registers : s .kind ≡ 8 → Bytes regs → Good s regs aux → Registers regs
   eight-registers e b g = record { few = rw (eight-long (g .shaped) e) (pow-mono (g .shaped .high)); small = rw (bytes-8 s regs aux e (g .shaped) b) at (g .small) }
-
-  pub good-few : {cs : List ℕ} → Good s regs aux → Counted (registers s regs aux) cs → FewCounted cs
-  good-few g k = record { regs = registers s regs aux; counted = k; few = rw (registers-long s regs aux g) (pow-mono (g .shaped .high)) }
 
   pub sums-no : {n : ℕ} → n ≡ checkNo true s regs aux → (n ≡ 0 → ⊥) → _≡_ {A = Summed} (record { no = n; low = fin false 0 (pos 0); high = fin false 0 (pos 0) }) (sumsOf s regs aux)
   unfolding sumsOf scaled

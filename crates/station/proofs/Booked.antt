@@ -4,20 +4,13 @@ use mathlib.Core.Bool.{not}
 use mathlib.Core.List.{List, [], _∷_}
 use Prim.Native.Nat.{ℕ}
 use lib.Dec.{T}
-use lib.Ieee.{isNan, binary64, round, toBits}
+use lib.Ieee.{isNan, binary64, toBits}
 use lib.ListN.{replicate}
-use Rattle.model.specs.Pick.{all, firstOf, first}
-use Rattle.model.specs.Registers.{raise, poured, least, countOf, above}
-use Rattle.model.specs.Packed.{number, digits, slotAt, unpacked, packed}
-use Rattle.model.specs.Table.{baseFor, sizeFor, tableSize, walk, stepsFrom, placeFrom, place, wordAt, used, insert, refill, grown, add, adds, keeps, laid}
-use Rattle.model.specs.Steps.{ran}
-use Rattle.model.specs.Four.{storedAt, valuesFrom, registers4, risen, climbed, settled, added, put4, step4}
-use Rattle.model.specs.Sketch.{sketchOf, isKind, bytesOf, lowOf, recordOf, stored, areaOf, cells, tableIn, registers}
-use Rattle.model.specs.Check.{countsFit, valuesFit, spareFits, tallyFits, wordFits, tableFits, goodOf, lgkNo, sizeNo, shapeNo, scratchFits, checkNo}
-use Rattle.model.specs.Sums.{share, scaled, ratio}
-use Rattle.model.specs.Calls.{Out, out, keptOut, startOf, stateOf, stepOf, feedOf, eightNo, mergeNo, mergeOf, Summed, sumsOf}
-use Rattle.model.specs.Image.{header, imageOf, imageIn, wrote, writeNo, writeOf}
+use Rattle.model.specs.Sketch.{sketchOf}
+use Rattle.model.specs.Calls.{Out, out, startOf, feedOf, mergeOf, Summed, sumsOf}
+use Rattle.model.specs.Image.{wrote, writeOf}
 use Rattle.model.specs.declared.Sketch.{Sketch}
+use Rattle.model.proofs.Computing.{book}
 use Rattle.station.specs.declared.Totals.{Totals}
 use Rattle.station.specs.Tour.{three-at-five, zero-at-fifteen, eight, four, joined, totals, flat}
 
@@ -57,5 +50,5 @@ pub record Booked : Type 0 where
   pub writes : writeOf (four .sketch) (four .regs) (four .aux) (replicate 52 3) ≡ wrote 0 52 (flat .bytes)
 
 pub booked : Booked
-unfolding all firstOf first raise poured least countOf above number digits slotAt unpacked packed baseFor sizeFor tableSize walk stepsFrom placeFrom place wordAt used insert refill grown add adds keeps laid ran storedAt valuesFrom registers4 risen climbed settled added put4 step4 isKind bytesOf lowOf recordOf stored areaOf cells tableIn registers countsFit valuesFit spareFits tallyFits wordFits tableFits goodOf lgkNo sizeNo shapeNo scratchFits checkNo share scaled ratio round isNan toBits keptOut startOf stateOf stepOf feedOf eightNo mergeNo mergeOf sumsOf header imageOf imageIn writeNo writeOf
+unfolding book isNan
 booked = record { starts-8 = refl; feeds-8 = refl; starts-4 = refl; feeds-4 = refl; merges = refl; refuses = refl; low = tt; high = tt; bits = refl; writes = refl }

@@ -1,5 +1,5 @@
 -- What the tour's functions return, from the equations that are their calls' contracts: each is led to the book's table. Assumes nothing.
-use mathlib.Core.Path.{_≡_, ap, _∙_}
+use mathlib.Core.Path.{_≡_, ap, ap₂, _∙_}
 use mathlib.Core.Bool.{not}
 use mathlib.Core.List.{List, [], _∷_}
 use Prim.Native.Nat.{ℕ}
@@ -17,14 +17,14 @@ use Rattle.station.specs.declared.Joined.{Joined}
 use Rattle.station.specs.declared.Refused.{Refused}
 use Rattle.station.specs.declared.Totals.{Totals}
 use Rattle.station.specs.declared.Flat.{Flat}
-use Rattle.station.specs.Tour.{three-at-five, zero-at-fifteen, eight, four, joined, refused, totals, flat}
-use Rattle.station.proofs.Booked.{fedTo, start8, start4, odd, sums, totalsFrom, booked}
+use Rattle.station.specs.Tour.{three-at-five, eight, four, joined, refused, totals, flat}
+use Rattle.station.proofs.Booked.{fedTo, odd, sums, totalsFrom, booked}
 
 -- ---- which part of an answer each field is
-abbrev eightFrom : Out → Out → Eight
+abbrev pub eightFrom : Out → Out → Eight
 eightFrom o p = record { started = o .no; fed = p .no; taken = p .count; sketch = p .sketch; regs = p .regs }
 
-abbrev fourFrom : Out → Out → Four
+abbrev pub fourFrom : Out → Out → Four
 fourFrom o p = record { started = o .no; fed = p .no; taken = p .count; sketch = p .sketch; regs = p .regs; aux = p .aux }
 
 abbrev joinedFrom : Out → Joined
@@ -36,19 +36,11 @@ refusedFrom o = record { answer = o .no; taken = o .count; regs = o .regs }
 abbrev flatFrom : Written → Flat
 flatFrom w = record { answer = w .no; len = w .len; bytes = w .out }
 
--- ---- start, then feed
-module _ {n m x y k : ℕ} {s t : Sketch} {regs aux regs′ aux′ : List ℕ} where
-  pub eights : n ≡ x → m ≡ y → out x s 0 regs aux ≡ start8 → out y t k regs′ aux′ ≡ feedOf s regs aux (replicate 1 5) (three-at-five ∷ [])
-      → _≡_ {A = Eight} (record { started = n; fed = m; taken = k; sketch = t; regs = regs′ }) eight
-  eights p q e f =
-      let g : out y t k regs′ aux′ ≡ out 0 (eight .sketch) 1 (eight .regs) (replicate 1 9) = f ∙ ap (λ (o : Out). fedTo o (replicate 1 5) three-at-five) e ∙ booked .feeds-8 in
-      rw (p, q) (ap (λ (o : Out). eightFrom o (out y t k regs′ aux′)) (e ∙ booked .starts-8) ∙ ap (λ (o : Out). eightFrom (out 0 s 0 regs aux) o) g)
-
-  pub fours : n ≡ x → m ≡ y → out x s 0 regs aux ≡ start4 → out y t k regs′ aux′ ≡ feedOf s regs aux (replicate 8 5) (zero-at-fifteen ∷ [])
-      → _≡_ {A = Four} (record { started = n; fed = m; taken = k; sketch = t; regs = regs′; aux = aux′ }) four
-  fours p q e f =
-      let g : out y t k regs′ aux′ ≡ out 0 (four .sketch) 1 (four .regs) (four .aux) = f ∙ ap (λ (o : Out). fedTo o (replicate 8 5) zero-at-fifteen) e ∙ booked .feeds-4 in
-      rw (p, q) (ap (λ (o : Out). fourFrom o (out y t k regs′ aux′)) (e ∙ booked .starts-4) ∙ ap (λ (o : Out). fourFrom (out 0 s 0 regs aux) o) g)
+-- ---- start, then feed: what is made of the two answers
+pub filled : {A : Type 0} (from : Out → Out → A) (scratch : List ℕ) (coupon : ℕ) {n m x y k : ℕ} {s t : Sketch} {regs aux regs′ aux′ : List ℕ} {start o p : Out}
+    → n ≡ x → m ≡ y → out x s 0 regs aux ≡ start → start ≡ o → out y t k regs′ aux′ ≡ feedOf s regs aux scratch (coupon ∷ []) → fedTo start scratch coupon ≡ p
+    → from (out n s 0 regs aux) (out m t k regs′ aux′) ≡ from o p
+filled from scratch coupon i j e b f g = rw (i, j) (ap₂ from (e ∙ b) (f ∙ ap (λ (o : Out). fedTo o scratch coupon) e ∙ g))
 
 -- ---- merge, and the refused feed
 module _ {n x : ℕ} {t : Sketch} {regs : List ℕ} where

@@ -1,5 +1,5 @@
 // A tour of the public calls on local memory: what they must give back is proved from their contracts, and expected again as it runs.
-// What single calls give is computed, in numbers; that two routes lead to one image is demand 3 itself (crates/routes).
+// What single calls give is computed, in numbers; that two routes lead to one image is demand 3 itself (crates/station_routes).
 use model::Sketch;
 ghost use mathlib.Core.Path.{_≡_};
 ghost use Rattle.station.specs.Tour.{eight, four, joined, refused, totals, flat};
@@ -61,7 +61,7 @@ fn fill_eight() -> Eight
     let made = sketch::start(8, 4, &mut regs, &mut aux);
     let first = made.answer;
     let empty = made.sketch;
-    let fed = in_place::feed_by_lending(empty, &mut regs, &mut aux, &mut scratch, &coupons);
+    let fed = sketch_in_place::feed_by_lending(empty, &mut regs, &mut aux, &mut scratch, &coupons);
     let second = fed.answer;
     let sketch = fed.sketch;
     Eight {
@@ -165,7 +165,7 @@ fn write_out(held: Four) -> Flat
     let sketch = held.sketch;
     let regs = held.regs;
     let aux = held.aux;
-    let written = image::write(sketch, &regs, &aux, &mut bytes);
+    let written = image_write::write(sketch, &regs, &aux, &mut bytes);
     let answer = written.answer;
     Flat {
         answer: model::number(answer),
@@ -232,8 +232,8 @@ fn show_image(f: Four)
 fn show_routes() {
     let some = [ZERO_AT_FIFTEEN, THREE_AT_FIVE, 0xffffffff];
     let others = [THREE_AT_FIVE, 0, ZERO_AT_FIFTEEN + 16];
-    check::expect(routes::same_by_two_routes(&some, &others));
-    check::expect(routes::same_by_two_routes(&others, &[]));
+    check::expect(station_routes::same_by_two_routes(&some, &others));
+    check::expect(station_routes::same_by_two_routes(&others, &[]));
     io::write_all(1, b"\nmerged or fed, sent or not: the same image\n");
 }
 

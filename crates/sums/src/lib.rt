@@ -26,16 +26,6 @@ pub fn count_in(counts: &mut [u32; 64], v: u8)
     counts[at] = counts[at] + 1;
 }
 
-// The same by value, where one register is counted and no loop.
-pub fn count_one(counts: [u32; 64], v: u8) -> [u32; 64]
-    requires { ⌜ (v < 64) × Room counts 0 ⌝ }
-    ensures { λ r. ⌜ ((R : List ℕ) → Counted R counts → Counted (R ++ (v ∷ [])) r) ⌝ }
-{
-    let mut more = counts;
-    count_in(&mut more, v);
-    more
-}
-
 // Registers counted in, one after the other.
 pub fn count_all(counts: &mut [u32; 64], regs: &[u8])
     requires { ⌜ Countable (now counts) (now regs) ⌝ }
@@ -52,7 +42,7 @@ fn count_word(counts: &mut [u32; 64], word: u32) -> u32
     requires { ⌜ Room (now counts) 0 ⌝ }
     ensures { λ r. ⌜ CountedWords (now (counts .entry)) (word ∷ []) (now (counts .exit)) r ⌝ }
 {
-    let value = array8::coupon::value(word);
+    let value = coupon::value(word);
     if value == 0 {
         return 0;
     }

@@ -7,7 +7,6 @@ use Prim.Native.Nat.{ℕ, zero, suc, max, _+_, _-_, _*_, _/_, _^_, _≤_, _<_, z
 use native.Mathlib.Omega.{arith}
 use lib.Dec.{eqb, leb, ltb, lit<}
 use lib.ListN.{length, getD}
-use lib.Pow.{pow-mono}
 use borrow.Author.Tests.{eq-eqb, ne-eqb, le-leb}
 use Rattle.model.specs.Pick.{pick, both, all}
 use Rattle.model.specs.Registers.{countOf}
@@ -15,26 +14,16 @@ use Rattle.model.specs.Packed.{number, unpacked}
 use Rattle.model.specs.Sketch.{bytesOf, cells}
 use Rattle.model.specs.Check.{valuesFit, spareFits, tallyFits}
 use Rattle.model.specs.declared.Sketch.{Sketch}
-use Rattle.model.proofs.Digits.{digit-lt}
-use Rattle.model.proofs.Demand1.{kind-tells}
-use Rattle.model.proofs.Tells.{tells-one, tells-true, tells-as, tells-both, tells-le}
-use Rattle.model.proofs.Tests.{cells-long, counts-tells, cur-min-most, values-tells}
+use Rattle.model.proofs.packing.Digits.{digit-lt}
+use Rattle.model.proofs.packing.Lengths.{kind-tells, bytes-eight, bytes-few}
+use Rattle.model.proofs.order.Tells.{tells-one, tells-true, tells-as, tells-both, tells-le}
+use Rattle.model.proofs.order.Tests.{cells-long, counts-tells, cur-min-most, values-tells}
 use Rattle.packed.proofs.Rooms.{room-4}
 use Rattle.survey_six.specs.Six.{Groups}
 use Rattle.survey_six.proofs.Shapes.{groups, zeros-of}
 use Rattle.survey_whole.specs.Whole.{Width, Cells, plain, most}
 use Rattle.survey_whole.proofs.Counted.{by-width}
 use Rattle.survey.specs.Survey.{Surveyable}
-
--- no sketch has more register bytes than can be counted
-pub bytes-few : (kind lgk : ℕ) → lgk ≤ 21 → bytesOf kind lgk ≤ 2 ^ 21
-unfolding bytesOf
-bytes-few kind lgk h = go (eqb kind 8) (eqb kind 6) (pow-mono h)
-  where
-    go : (a b : Bool) → 2 ^ lgk ≤ 2 ^ 21 → pick a (2 ^ lgk) (pick b (2 ^ lgk / 4 * 3 + 1) (2 ^ lgk / 2)) ≤ 2 ^ 21
-    go true b e = omega arith
-    go false true e = omega arith
-    go false false e = omega arith
 
 -- ---- the largest is within a bound where all are
 most-all : (f : ℕ → ℕ) (n b : ℕ) → leb (most f n) b ≡ all (λ i. leb (f i) b) n
@@ -103,8 +92,7 @@ module _ {s : Sketch} {regs : List ℕ} (ok : Surveyable s regs) where
 
     -- as many cells as the sketch has
     whole-many : 8 / s .kind * length regs ≡ 2 ^ s .«lg_k»
-    unfolding bytesOf
-    whole-many = by-width (λ w. length regs ≡ bytesOf w (s .«lg_k») → 8 / w * length regs ≡ 2 ^ s .«lg_k») (λ e. sym (room-4 (ok .shaped .low) e)) (λ e. omega arith) width (ok .shaped .long)
+    whole-many = by-width (λ w. length regs ≡ bytesOf w (s .«lg_k») → 8 / w * length regs ≡ 2 ^ s .«lg_k») (λ e. sym (room-4 (ok .shaped .low) e)) (λ e. omega (arith, bytes-eight (s .«lg_k»))) width (ok .shaped .long)
 
     whole-are : unpacked (s .kind) (8 / s .kind * length regs) regs ≡ cells s regs
     unfolding cells

@@ -11,8 +11,8 @@ use borrow.Author.Tests.{eq-eqb, ne-eqb}
 use Rattle.model.specs.Pick.{pick}
 use Rattle.model.specs.Registers.{countOf}
 use Rattle.model.specs.Packed.{Bytes, unpacked}
-use Rattle.model.proofs.Packing.{length-unpacked, getD-unpacked, slot-window, window-two}
-use Rattle.model.proofs.Lowest.{count-le, count-next}
+use Rattle.model.proofs.packing.Packing.{length-unpacked, getD-unpacked, slot-window, window-two}
+use Rattle.model.proofs.registers.Lowest.{count-le, count-next}
 use Rattle.survey_six.specs.Six.{Flag, Both, Groups, left, beginsAt}
 
 abbrev pub cells : List ℕ → List ℕ

@@ -2,7 +2,7 @@
 use mathlib.Core.Path.{_≡_, sym, _∙_, subst}
 use mathlib.Core.Logic.{⊎-elim}
 use mathlib.Core.List.{List}
-use Prim.Native.Nat.{ℕ, max, _+_, _-_, _*_, _/_, _%_, _^_, _≤_, _<_}
+use Prim.Native.Nat.{ℕ, max, _+_, _*_, _/_, _%_, _^_, _≤_, _<_}
 use native.Mathlib.Nat.{mul-zero}
 use native.Mathlib.Numerals.{add-one}
 use native.Mathlib.Omega.{arith}
@@ -11,8 +11,8 @@ use lib.ListN.{length, getD, drop, drop-of-length-le}
 use Rattle.model.specs.Pick.{pick}
 use Rattle.model.specs.Registers.{countOf}
 use Rattle.model.specs.Packed.{Bytes, unpacked}
-use Rattle.model.proofs.Packing.{length-unpacked, getD-unpacked}
-use Rattle.model.proofs.Lowest.{count-le, count-next}
+use Rattle.model.proofs.packing.Packing.{length-unpacked, getD-unpacked}
+use Rattle.model.proofs.registers.Lowest.{count-le, count-next}
 use Rattle.packed.proofs.Cells.{get-one}
 use Rattle.survey_whole.specs.Whole.{Width, Hits, plain, highest, most, left}
 

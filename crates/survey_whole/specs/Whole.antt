@@ -9,11 +9,6 @@ use Rattle.model.specs.Pick.{pick, both}
 use Rattle.model.specs.Registers.{countOf}
 use Rattle.model.specs.Packed.{unpacked}
 
--- r is 1 where n is m, and else 0
-pub record One (n m r : ℕ) : Type 0 where
-  pub is : r ≡ pick (eqb n m) 1 0
-  pub most : r ≤ 1
-
 -- 4 or 8 bits
 pub record Width (w : ℕ) : Type 0 where
   pub is : (w ≡ 4) ⊎ (w ≡ 8)

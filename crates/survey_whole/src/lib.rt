@@ -1,27 +1,22 @@
 // Cells of 4 and of 8 bits, a whole number of them to a byte: how many have a value, and the largest that is no token. No window, no branch on a
 // value, and counters as narrow as the cells' bytes: so the compiler takes sixteen bytes at a time. (It takes the test of the width out of the loop.)
+use packed::eight::larger;
+use packed::eight::one_if;
 ghost use mathlib.Core.Path.{_≡_};
 ghost use Prim.Native.Nat.{_+_, _*_, _/_};
 ghost use lib.ListN.{length, getD};
 ghost use Rattle.model.specs.Registers.{countOf};
 ghost use Rattle.model.specs.Packed.{unpacked};
-ghost use Rattle.survey_whole.specs.Whole.{One, Hits, Cells, Part, plain, highest, most, left};
-
-// A test as a number to add.
-fn one(n: u8, is: u8) -> u8
-    ensures { λ r. ⌜ One n is r ⌝ }
-{
-    if n == is { 1 } else { 0 }
-}
+ghost use Rattle.survey_whole.specs.Whole.{Hits, Cells, Part, plain, highest, most, left};
 
 // How many cells of a byte are `is`.
 fn hits(width: u8, byte: u8, is: u8) -> u8
     ensures { λ r. ⌜ Hits width byte is r ⌝ }
 {
     if width == 8 {
-        return one(byte, is);
+        return one_if(byte, is);
     }
-    one(byte % 16, is) + one(byte >> 4, is)
+    one_if(byte % 16, is) + one_if(byte >> 4, is)
 }
 
 // A part so short that a byte counts it.
@@ -72,7 +67,7 @@ fn top(width: u8, byte: u8) -> u8
     if width == 8 {
         return byte;
     }
-    array8::larger(no_token(byte % 16), no_token(byte >> 4))
+    larger(no_token(byte % 16), no_token(byte >> 4))
 }
 
 // The largest cell that is no token, or 0.
@@ -83,7 +78,7 @@ pub fn largest(width: u8, regs: &[u8]) -> u8
     let mut most: u8 = 0;
     let mut at = 0;
     while at < regs.len() {
-        most = array8::larger(most, top(width, regs[at]));
+        most = larger(most, top(width, regs[at]));
         at += 1;
     }
     most

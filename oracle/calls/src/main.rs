@@ -3,8 +3,8 @@
 
 mod call;
 mod draw;
+mod good;
 mod histories;
-mod judge;
 mod least;
 mod lent;
 mod merges;

@@ -1,26 +1,26 @@
-//! Sketches handed in damaged, and lengths that are off by one: the answer is the judge's, and a refusal leaves what it was lent.
+//! Sketches handed in damaged, and lengths that are off by one: the answer is document 01's, and a refusal leaves what it was lent.
 
 use crate::call;
 use crate::draw;
+use crate::good;
 use crate::histories::{feed, start};
-use crate::judge;
 use crate::lent::Lent;
 use crate::ours::{Ours, answered, bytes};
 use crate::room::Room;
 use oracle::Door;
 use oracle::examples::Random;
 
-/// Every call on a sketch as it is, each compared with the judge.
+/// Every call on a sketch as it is, each compared with what document 01 answers.
 fn all(ours: &Ours, tally: &mut usize) -> Result<(), String> {
     *tally += 1;
     let record = ours.record.all();
     let (kind, lg_k, area) = (record[0], record[1], ours.aux.all().len());
-    let wanted = judge::sketch(ours, true);
+    let wanted = good::sketch(ours, true);
     // Lengths around the right ones; where lg_k is none, any.
     let k = if lg_k < 22 { 1usize << lg_k } else { 16 };
     for long in [k, k - 1, k + 1] {
         let mut out = Lent::noise(long);
-        let wanted = judge::sketch(ours, lg_k < 64 && long as u64 == 1 << lg_k);
+        let wanted = good::sketch(ours, lg_k < 64 && long as u64 == 1 << lg_k);
         answered("unpack", ours.unpack(&mut out), wanted)?;
         if !out.intact() || wanted != 0 && !out.is_noise() {
             return Err("unpack wrote what it should not".into());
@@ -28,7 +28,7 @@ fn all(ours: &Ours, tally: &mut usize) -> Result<(), String> {
     }
     for long in [area, area + 1, area.saturating_sub(1)] {
         let mut fed = Ours { scratch: Lent::noise(long), ..ours.clone() };
-        let wanted = judge::sketch(ours, kind != 4 || area <= long);
+        let wanted = good::sketch(ours, kind != 4 || area <= long);
         let (number, taken) = fed.feed(&[]);
         answered("feed of nothing", number, wanted)?;
         if taken != 0 || !fed.same(ours) {
@@ -42,7 +42,7 @@ fn all(ours: &Ours, tally: &mut usize) -> Result<(), String> {
         }
         fed.intact()?;
     }
-    let shown = if judge::eight(ours) == 0 { ours.regs.all().len() } else { 0 };
+    let shown = if good::eight(ours) == 0 { ours.regs.all().len() } else { 0 };
     if ours.view() != shown {
         return Err(format!("view shows {}, not {shown}", ours.view()));
     }
@@ -88,7 +88,7 @@ fn all(ours: &Ours, tally: &mut usize) -> Result<(), String> {
     for (source, theirs) in [(&good, 0), (&kindless, 1)] {
         let mut target = ours.clone();
         let finer = if lg_k > 4 { 5 } else { 0 };
-        let steps = [judge::eight(ours), theirs, finer];
+        let steps = [good::eight(ours), theirs, finer];
         let wanted = steps.into_iter().find(|number| *number != 0).unwrap_or(0);
         answered("merge as target", target.merge(source), wanted)?;
         if wanted != 0 && !target.same(ours) {

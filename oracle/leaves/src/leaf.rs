@@ -1,4 +1,4 @@
-//! The proved leaves behind safe functions. Nothing checks these declarations against crates/leaf_c, and no proof
+//! The proved leaves behind safe functions. Nothing checks these declarations against crates/c_leaves, and no proof
 //! reaches a caller in Rust; so each function first tests what the leaf's `requires` asks.
 
 use crate::order;

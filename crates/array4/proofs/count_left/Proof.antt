@@ -13,4 +13,6 @@ returns-2 : tie.Need-returns-2
 returns-2 c = rw (ne-eqb _ 0 (c .if1 .left))
 
 pub count-left-spec : {M : Type 1} → statement M
-count-left-spec = tie.close (tie.spec sub-result returns returns-2)
+count-left-spec =
+    tie.close
+    (tie.spec sub-result returns returns-2)

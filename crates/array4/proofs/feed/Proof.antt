@@ -22,15 +22,6 @@ loop-holds c =
     let s = c .before .before .before .before in
     (refl, refl, refl, feeding.feeding-none (s .pre) _)
 
-mul-c : tie.Need-mul-c Inv-loop μ-loop
-mul-c c = search needs
-
-shared-slice-read-c : tie.Need-shared-slice-read-c Inv-loop μ-loop
-shared-slice-read-c c = search needs
-
-add-next : tie.Need-add-next Inv-loop μ-loop
-add-next c = search needs
-
 update-requires : tie.Need-update-requires Inv-loop μ-loop
 update-requires c κs =
     let l = c .before .before .before .before .before in
@@ -96,21 +87,5 @@ returns-2 c =
 pub feed-spec : {M : Type 1} → statement M
 feed-spec =
     tie.close
-    (tie.spec
-    Inv-loop
-    μ-loop
-    loop-holds
-    mul-c
-    shared-slice-read-c
-    add-next
-    update-requires
-    same-length
-    same-length-2
-    same-length-3
-    returns
-    loop-less
-    loop-again
-    same-length-4
-    same-length-5
-    same-length-6
-    returns-2)
+    (tie.spec Inv-loop μ-loop loop-holds (λ mul-c. search needs) (λ shared-slice-read-c. search needs) (λ add-next. search needs) update-requires
+    same-length same-length-2 same-length-3 returns loop-less loop-again same-length-4 same-length-5 same-length-6 returns-2)

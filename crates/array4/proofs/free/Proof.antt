@@ -6,7 +6,6 @@ use Prim.Native.Nat.{ℕ, _+_, _-_, _*_, _≤_, _<_}
 use native.Mathlib.Omega.{arith}
 use lib.ListN.{length, getD}
 use Rattle.model.specs.Coupon.{slot}
-use Rattle.aux_map.proofs.Answers.{value-whole}
 use Rattle.array4.specs.Rise.{Freed}
 use Rattle.array4.proofs.Freeing as freeing
 use borrow.Author.Needs.{needs}
@@ -22,41 +21,26 @@ abbrev μ-loop : tie.MeasureT-loop
 loop-holds : tie.Need-loop-holds Inv-loop μ-loop
 loop-holds c = (omega arith, freeing.freed-none _ _ _)
 
-mul-w : tie.Need-mul-w Inv-loop μ-loop
-mul-w c = search needs
-
-shared-slice-read-w : tie.Need-shared-slice-read-w Inv-loop μ-loop
-shared-slice-read-w c = search needs
-
 put-raw-requires : tie.Need-put-raw-requires Inv-loop μ-loop
 put-raw-requires c κs =
-    let l = c .before .before .before .before in
+    let i = c .before .before in
+    let l = i .before .before .before .before in
     let s = l .before .before .before in
-    let w = c .before .before .shared-slice-known2 .given (l .loop .i) .fits in
-    let h : slot (getD (s .args .table .now) (l .loop .i) 0) < 2 * length (s .args .regs .now) = s .pre .inside (l .loop .i) (omega arith) (sym (value-whole _ w) ∙ c .before .if1 .taken) in
-    (omega (arith, h, l .loop .inv .1 .long), omega arith)
-
-add-i : tie.Need-add-i Inv-loop μ-loop
-add-i c = search needs
-
-loop-less : tie.Need-loop-less Inv-loop μ-loop
-loop-less c = search needs
+    let h : slot (getD (s .args .table .now) (l .loop .i) 0) < 2 * length (s .args .regs .now) = s .pre .inside (l .loop .i) (omega arith) (sym (i .before .value .ensures) ∙ i .if1 .taken) in
+    (omega (arith, h, c .slot .ensures, l .loop .inv .1 .long), omega arith)
 
 loop-again : tie.Need-loop-again Inv-loop μ-loop
 loop-again c =
-    let l = c .before .before .before in
+    let l = c .before .before .before .before in
     let s = l .before .before .before in
     let f : List ℕ → Type 0 = Freed (s .args .table .now) (s .args .value) (l .loop .i + 1) (s .args .regs .now) in
-    let w = value-whole _ (c .before .shared-slice-known2 .given (l .loop .i) .fits) in (
+    let v = c .before .value .ensures in (
       omega arith,
       ⊎-elim
-          (λ t. subst f (sym (t .5)) (freeing.freed-put (l .loop .inv .1) _ (sym w ∙ t .0 .taken) (t .2 .ensures)))
-          (λ t. subst f (sym (t .1)) (freeing.freed-skip (l .loop .inv .1) (λ e. t .0 .left (w ∙ e))))
+          (λ t. subst f (sym (t .6)) (freeing.freed-put (l .loop .inv .1) _ (sym v ∙ t .0 .taken) (rw (t .2 .ensures) at (t .3 .ensures))))
+          (λ t. subst f (sym (t .1)) (freeing.freed-skip (l .loop .inv .1) (λ e. t .0 .left (v ∙ e))))
           (c .if1 .came),
     )
-
-same-length : tie.Need-same-length Inv-loop μ-loop
-same-length c = search needs
 
 returns : tie.Need-returns Inv-loop μ-loop
 returns c =
@@ -67,15 +51,6 @@ returns c =
 pub free-spec : {M : Type 1} → statement M
 free-spec =
     tie.close
-    (tie.spec
-    Inv-loop
-    μ-loop
-    loop-holds
-    mul-w
-    shared-slice-read-w
-    put-raw-requires
-    add-i
-    loop-less
-    loop-again
-    same-length
+    (tie.spec Inv-loop μ-loop loop-holds (λ mul-w. search needs) (λ shared-slice-read-w. search needs) (λ value-requires κs. search needs)
+    (λ slot-requires κs. search needs) put-raw-requires (λ add-i. search needs) (λ loop-less. search needs) loop-again (λ same-length. search needs)
     returns)

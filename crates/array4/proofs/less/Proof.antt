@@ -10,4 +10,6 @@ returns-2 : tie.Need-returns-2
 returns-2 c = rw (le-ltb _ 15 (c .if1 .left))
 
 pub less-spec : {M : Type 1} → statement M
-less-spec = tie.close (tie.spec returns returns-2)
+less-spec =
+    tie.close
+    (tie.spec returns returns-2)

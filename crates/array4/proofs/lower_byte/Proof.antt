@@ -6,14 +6,8 @@ use borrow.Author.Needs.{needs}
 use Rattle.array4.proofs.lower_byte.Statement.{statement}
 use Rattle.array4.proofs.lower_byte.Tie as tie
 
-less-requires : tie.Need-less-requires
-less-requires c κs = search needs
-
 sub-result : tie.Need-sub-result
 sub-result c = let s = c .before in omega (arith, lowered-less (s .args .byte % 16) (c .less .result) (s .pre .even) (c .less .ensures))
-
-less-requires-2 : tie.Need-less-requires-2
-less-requires-2 c κs = search needs
 
 mul-result : tie.Need-mul-result
 mul-result c = let s = c .before .before in omega (arith, lowered-less (s .args .byte / 16) (c .less2 .result) (s .pre .odd) (c .less2 .ensures))
@@ -29,4 +23,6 @@ returns c =
     omega (arith, lowered-less (s .args .byte % 16) (c .before .less .result) (s .pre .even) (c .before .less .ensures), lowered-less (s .args .byte / 16) (c .less2 .result) (s .pre .odd) (c .less2 .ensures))
 
 pub lower-byte-spec : {M : Type 1} → statement M
-lower-byte-spec = tie.close (tie.spec less-requires sub-result less-requires-2 mul-result sub-result-2 returns)
+lower-byte-spec =
+    tie.close
+    (tie.spec (λ less-requires κs. search needs) sub-result (λ less-requires-2 κs. search needs) mul-result sub-result-2 returns)

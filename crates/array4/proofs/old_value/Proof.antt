@@ -5,17 +5,8 @@ use borrow.Author.Needs.{needs}
 use Rattle.array4.proofs.old_value.Statement.{statement}
 use Rattle.array4.proofs.old_value.Tie as tie
 
-add-result : tie.Need-add-result
-add-result c = search needs
-
 returns : tie.Need-returns
 returns c = reading.by-nibble _ _ _ _ (c .before .if1 .taken)
-
-base-for-requires : tie.Need-base-for-requires
-base-for-requires c κs = search needs
-
-cast-table-size : tie.Need-cast-table-size
-cast-table-size c = search needs
 
 table-size-requires : tie.Need-table-size-requires
 table-size-requires c κs = reading.sized (c .before .before .before .before .pre) _ (c .before .base-for .ensures)
@@ -25,12 +16,6 @@ slice-aggregate-get c = let s = c .before .before .before .before .before .befor
 
 get-requires : tie.Need-get-requires
 get-requires c κs = let s = c .before .before .before .before .before .before in reading.room (s .pre) _ (c .before .before .before .base-for .ensures) _ (c .before .table-size .ensures) (c .before .before .before .before .if1 .left)
-
-enum-known-v : tie.Need-enum-known-v
-enum-known-v c = search needs
-
-enum-told : tie.Need-enum-told
-enum-told c = search needs
 
 returns-2 : tie.Need-returns-2
 returns-2 c =
@@ -47,15 +32,5 @@ returns-3 c =
 pub old-value-spec : {M : Type 1} → statement M
 old-value-spec =
     tie.close
-    (tie.spec
-    add-result
-    returns
-    base-for-requires
-    cast-table-size
-    table-size-requires
-    slice-aggregate-get
-    get-requires
-    enum-known-v
-    enum-told
-    returns-2
-    returns-3)
+    (tie.spec (λ add-result. search needs) returns (λ base-for-requires κs. search needs) (λ cast-table-size. search needs) table-size-requires
+    slice-aggregate-get get-requires (λ enum-known-v. search needs) (λ enum-told. search needs) returns-2 returns-3)

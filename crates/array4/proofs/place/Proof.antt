@@ -22,12 +22,6 @@ sub-put-raw c =
     let s = c .before .before .before .before .before .before in
     placing.value-above (s .pre)
 
-put-raw-requires : tie.Need-put-raw-requires
-put-raw-requires c κs = search needs
-
-same-length : tie.Need-same-length
-same-length c = search needs
-
 returns : tie.Need-returns
 returns c =
     let p = c .before .before in
@@ -35,12 +29,6 @@ returns c =
     let n = i .before in
     let s = n .before .before .before .before in
     placing.placed-plain (s .pre) (i .if1 .taken) _ _ (n .count-left .ensures) (p .put-raw .ensures)
-
-base-for-requires : tie.Need-base-for-requires
-base-for-requires c κs = search needs
-
-cast-size-for : tie.Need-cast-size-for
-cast-size-for c = search needs
 
 size-for-requires : tie.Need-size-for-requires
 size-for-requires c κs =
@@ -73,9 +61,6 @@ replace-requires c κs =
     let s = i .before .before .before .before .before in
     excepting.replaceable (s .pre) (i .if1 .left) _ _ (b .base-for .ensures) (z .size-for .ensures) (t .if2 .taken)
 
-same-length-2 : tie.Need-same-length-2
-same-length-2 c = search needs
-
 returns-2 : tie.Need-returns-2
 returns-2 c =
     let r = c .before .before in
@@ -85,12 +70,6 @@ returns-2 c =
     let i = b .before in
     let s = i .before .before .before .before .before in
     excepting.placed-replace (s .pre) (i .if1 .left) _ _ (b .base-for .ensures) (z .size-for .ensures) (t .if2 .taken) _ (r .replace .ensures) (r .replace .kept .0)
-
-cast-size-for-2 : tie.Need-cast-size-for-2
-cast-size-for-2 c = search needs
-
-add-size-for : tie.Need-add-size-for
-add-size-for c = search needs
 
 size-for-requires-2 : tie.Need-size-for-requires-2
 size-for-requires-2 c κs =
@@ -108,49 +87,31 @@ returns-3 c =
     let s = i .before .before .before .before .before in
     excepting.placed-none (s .pre) (i .if1 .left) _ _ (b .base-for .ensures) (z .size-for .ensures) (t .if2 .left) _ (n .size-for2 .ensures) (c .if3 .taken)
 
-put-raw-requires-2 : tie.Need-put-raw-requires-2
-put-raw-requires-2 c κs = search needs
-
-cast-insert : tie.Need-cast-insert
-cast-insert c = search needs
-
-mul-insert : tie.Need-mul-insert
-mul-insert c = search needs
-
-add-insert : tie.Need-add-insert
-add-insert c =
+word-requires : tie.Need-word-requires
+word-requires c κs =
     let s = c .before .before .before .before .before .before .before .before .before .before .before .before .before .before .before .before in
-    omega (arith, placing.slot-small (s .pre), s .pre .small)
+    (placing.slot-small (s .pre), s .pre .small)
 
 insert-requires : tie.Need-insert-requires
 insert-requires c κs =
-    let o = c .before .before .before .before .before .before in
+    let o = c .before .before .before .before .before .before .before in
     let n = o .before in
     let t = n .before in
     let z = t .before in
     let b = z .before in
     let i = b .before in
     let s = i .before .before .before .before .before in
-    excepting.insertable (s .pre) (i .if1 .left) _ _ (b .base-for .ensures) (z .size-for .ensures) (t .if2 .left) _ (n .size-for2 .ensures) (o .if3 .left)
+    rw (c .word .ensures) (excepting.insertable (s .pre) (i .if1 .left) _ _ (b .base-for .ensures) (z .size-for .ensures) (t .if2 .left) _ (n .size-for2 .ensures) (o .if3 .left))
 
 add-t33 : tie.Need-add-t33
 add-t33 c =
-    let s = c .before .before .before .before .before .before .before .before .before .before .before .before .before .before .before .before .before .before .before .before .before in
+    let s = c .before .before .before .before .before .before .before .before .before .before .before .before .before .before .before .before .before .before .before .before .before .before in
     omega (arith, holds-count (s .pre .held .holds))
-
-same-length-3 : tie.Need-same-length-3
-same-length-3 c = search needs
-
-same-length-4 : tie.Need-same-length-4
-same-length-4 c = search needs
-
-same-length-5 : tie.Need-same-length-5
-same-length-5 c = search needs
 
 returns-4 : tie.Need-returns-4
 returns-4 c =
     let w = c .before .before .before .before in
-    let p = w .before .before .before .before .before in
+    let p = w .before .before .before .before .before .before in
     let o = p .before .before in
     let n = o .before in
     let t = n .before in
@@ -159,37 +120,14 @@ returns-4 c =
     let i = b .before in
     let m = i .before in
     let s = m .before .before .before .before in
-    excepting.placed-insert (s .pre) (i .if1 .left) _ _ (b .base-for .ensures) (z .size-for .ensures) (t .if2 .left) _ (n .size-for2 .ensures) (o .if3 .left) _ _ (m .count-left .ensures) (p .put-raw2 .ensures) _ _ _ (w .insert .kept .0) (w .insert .ensures)
+    excepting.placed-insert (s .pre) (i .if1 .left) _ _ (b .base-for .ensures) (z .size-for .ensures) (t .if2 .left) _ (n .size-for2 .ensures) (o .if3 .left) _ _ (m .count-left .ensures) (p .put-raw2 .ensures) _ _ _ (w .insert .kept .0)
+    (rw (w .before .word .ensures) at (w .insert .ensures))
 
 pub place-spec : {M : Type 1} → statement M
 place-spec =
     tie.close
-    (tie.spec
-    count-left-requires
-    add-if1
-    sub-put-raw
-    put-raw-requires
-    same-length
-    returns
-    base-for-requires
-    cast-size-for
-    size-for-requires
-    slice-relend-prefix-replace
-    slice-aggregate-replace
-    replace-requires
-    same-length-2
-    returns-2
-    cast-size-for-2
-    add-size-for
-    size-for-requires-2
-    returns-3
-    put-raw-requires-2
-    cast-insert
-    mul-insert
-    add-insert
-    insert-requires
-    add-t33
-    same-length-3
-    same-length-4
-    same-length-5
-    returns-4)
+    (tie.spec count-left-requires add-if1 sub-put-raw (λ put-raw-requires κs. search needs) (λ same-length. search needs) returns
+    (λ base-for-requires κs. search needs) (λ cast-size-for. search needs) size-for-requires slice-relend-prefix-replace slice-aggregate-replace
+    replace-requires (λ same-length-2. search needs) returns-2 (λ cast-size-for-2. search needs) (λ add-size-for. search needs) size-for-requires-2
+    returns-3 (λ put-raw-requires-2 κs. search needs) (λ cast-insert. search needs) word-requires insert-requires add-t33
+    (λ same-length-3. search needs) (λ same-length-4. search needs) (λ same-length-5. search needs) returns-4)

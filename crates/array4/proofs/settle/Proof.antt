@@ -65,14 +65,4 @@ returns c = settling.settling-end (c .before .loop .inv .3) (c .loop-test .left)
 pub settle-spec : {M : Type 1} → statement M
 settle-spec =
     tie.close
-    (tie.spec
-    Inv-loop
-    μ-loop
-    loop-holds
-    shift-to-bigger-cur-min-requires
-    loop-less
-    loop-again
-    same-length
-    same-length-2
-    same-length-3
-    returns)
+    (tie.spec Inv-loop μ-loop loop-holds shift-to-bigger-cur-min-requires loop-less loop-again same-length same-length-2 same-length-3 returns)

@@ -17,20 +17,11 @@ add-t13 c =
     let s = c .before .before .before .before .before .before .before .before .before in
     omega (arith, rising.rise-small (s .pre .held .holds) (s .pre .none))
 
-same-length : tie.Need-same-length
-same-length c = search needs
-
 returns : tie.Need-returns
 returns c =
     let l = c .before .before .before .before in
     let s = l .before .before .before .before .before in
     rising.rose-plain (s .pre .held .holds) (s .pre .none) (l .lower .ensures) (c .if1 .taken)
-
-base-for-requires : tie.Need-base-for-requires
-base-for-requires c κs = search needs
-
-cast-table-size : tie.Need-cast-table-size
-cast-table-size c = search needs
 
 table-size-requires : tie.Need-table-size-requires
 table-size-requires c κs =
@@ -53,11 +44,10 @@ slice-aggregate-free c =
     let s = l .before .before .before .before .before in
     remaking.rise-part (s .pre .held .holds) (s .pre .none) (l .lower .ensures) _ _ (b .base-for .ensures) (t .table-size .ensures)
 
-cast-free : tie.Need-cast-free
-cast-free c = search needs
-
 add-free : tie.Need-add-free
-add-free c = search needs
+add-free c =
+    let s = c .before .before .before .before .before .before .before .before .before .before .before .before .before .before in
+    omega (arith, rising.rise-small (s .pre .held .holds) (s .pre .none))
 
 free-requires : tie.Need-free-requires
 free-requires c κs =
@@ -66,12 +56,6 @@ free-requires c κs =
     let l = b .before .before .before .before .before in
     let s = l .before .before .before .before .before in
     remaking.freeable (s .pre .held .holds) (s .pre .none) (l .lower .ensures) _ _ (b .base-for .ensures) (t .table-size .ensures) _ (omega arith)
-
-cast-rebuild : tie.Need-cast-rebuild
-cast-rebuild c = search needs
-
-add-rebuild : tie.Need-add-rebuild
-add-rebuild c = search needs
 
 rebuild-requires : tie.Need-rebuild-requires
 rebuild-requires c κs =
@@ -82,28 +66,19 @@ rebuild-requires c κs =
     let s = l .before .before .before .before .before in
     remaking.rebuildable (s .pre .held .holds) (s .pre .none) (l .lower .ensures) _ _ (b .base-for .ensures) (t .table-size .ensures) (i .if1 .left) _ (s .pre .held .spare) _ (omega arith)
 
-add-t26 : tie.Need-add-t26
-add-t26 c =
+add-t20 : tie.Need-add-t20
+add-t20 c =
     let s = c .before .before .before .before .before .before .before .before .before .before .before .before .before .before .before .before .before .before .before .before .before .before .before .before in
     omega (arith, rising.rise-small (s .pre .held .holds) (s .pre .none))
 
-cast-t20 : tie.Need-cast-t20
-cast-t20 c =
+cast-t26 : tie.Need-cast-t26
+cast-t26 c =
     let r = c .before .before .before .before in
     let t = r .before .before .before .before .before .before .before .before in
     let b = t .before .before in
     let l = b .before .before .before .before .before in
     let s = l .before .before .before .before .before in
     omega (arith, remaking.left-few (s .pre .held .holds) (s .pre .none) (l .lower .ensures) _ _ (b .base-for .ensures) (t .table-size .ensures) (r .rebuild .ensures) (omega arith))
-
-same-length-2 : tie.Need-same-length-2
-same-length-2 c = search needs
-
-same-length-3 : tie.Need-same-length-3
-same-length-3 c = search needs
-
-same-length-4 : tie.Need-same-length-4
-same-length-4 c = search needs
 
 returns-2 : tie.Need-returns-2
 returns-2 c =
@@ -118,25 +93,7 @@ returns-2 c =
 pub shift-to-bigger-cur-min-spec : {M : Type 1} → statement M
 shift-to-bigger-cur-min-spec =
     tie.close
-    (tie.spec
-    lower-requires
-    add-t13
-    same-length
-    returns
-    base-for-requires
-    cast-table-size
-    table-size-requires
-    slice-reshare-prefix-free
-    slice-aggregate-free
-    cast-free
-    add-free
-    free-requires
-    cast-rebuild
-    add-rebuild
-    rebuild-requires
-    add-t26
-    cast-t20
-    same-length-2
-    same-length-3
-    same-length-4
-    returns-2)
+    (tie.spec lower-requires add-t13 (λ same-length. search needs) returns (λ base-for-requires κs. search needs) (λ cast-table-size. search needs)
+    table-size-requires slice-reshare-prefix-free slice-aggregate-free add-free free-requires (λ cast-rebuild. search needs)
+    (λ add-rebuild. search needs) rebuild-requires add-t20 cast-t26 (λ same-length-2. search needs) (λ same-length-3. search needs)
+    (λ same-length-4. search needs) returns-2)

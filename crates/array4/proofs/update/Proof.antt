@@ -6,17 +6,14 @@ use borrow.Author.Needs.{needs}
 use Rattle.array4.proofs.update.Statement.{statement}
 use Rattle.array4.proofs.update.Tie as tie
 
-value-of-requires : tie.Need-value-of-requires
-value-of-requires c κs = search needs
-
 returns : tie.Need-returns
 returns c =
     let v = c .before .before in
     let s = v .before .before .before .before in
-    updating.same-low (s .pre) _ _ (v .value-of .ensures .0) (c .if1 .taken)
+    updating.same-low (s .pre) _ _ (v .value .ensures) (c .if1 .taken)
 
-slot-of-requires : tie.Need-slot-of-requires
-slot-of-requires c κs =
+home-requires : tie.Need-home-requires
+home-requires c κs =
     let s = c .before .before .before .before .before .before in
     s .pre .rests .holds .high
 
@@ -25,7 +22,7 @@ get-raw-requires c κs =
     let i = c .before in
     let v = i .before .before .before in
     let s = v .before .before .before .before in
-    updating.slot-in (s .pre) _ _ (v .value-of .ensures .0) _ (i .slot-of .ensures .0)
+    updating.slot-in (s .pre) _ _ (v .value .ensures) _ (i .home .ensures)
 
 add-if2 : tie.Need-add-if2
 add-if2 c =
@@ -33,10 +30,7 @@ add-if2 c =
     let i = g .before .before in
     let v = i .before .before .before in
     let s = v .before .before .before .before in
-    omega (arith, updating.bound-fits (s .pre) _ _ (v .value-of .ensures .0) _ (i .slot-of .ensures .0) _ (g .get-raw .ensures))
-
-same-length : tie.Need-same-length
-same-length c = search needs
+    omega (arith, updating.bound-fits (s .pre) _ _ (v .value .ensures) _ (i .home .ensures) _ (g .get-raw .ensures))
 
 returns-2 : tie.Need-returns-2
 returns-2 c =
@@ -44,7 +38,7 @@ returns-2 c =
     let i = g .before .before in
     let v = i .before .before .before in
     let s = v .before .before .before .before in
-    updating.same-raw (s .pre) _ _ (v .value-of .ensures .0) _ (i .slot-of .ensures .0) _ (g .get-raw .ensures) (c .if2 .taken)
+    updating.same-raw (s .pre) _ _ (v .value .ensures) _ (i .home .ensures) _ (g .get-raw .ensures) (c .if2 .taken)
 
 old-value-requires : tie.Need-old-value-requires
 old-value-requires c κs =
@@ -52,13 +46,7 @@ old-value-requires c κs =
     let i = g .before .before in
     let v = i .before .before .before in
     let s = v .before .before .before .before in
-    updating.readable (s .pre) _ _ (v .value-of .ensures .0) _ (i .slot-of .ensures .0) _ (g .get-raw .ensures)
-
-same-length-2 : tie.Need-same-length-2
-same-length-2 c = search needs
-
-same-length-3 : tie.Need-same-length-3
-same-length-3 c = search needs
+    updating.readable (s .pre) _ _ (v .value .ensures) _ (i .home .ensures) _ (g .get-raw .ensures)
 
 returns-3 : tie.Need-returns-3
 returns-3 c =
@@ -67,7 +55,7 @@ returns-3 c =
     let i = g .before .before in
     let v = i .before .before .before in
     let s = v .before .before .before .before in
-    updating.same-old (s .pre) _ _ (v .value-of .ensures .0) _ (i .slot-of .ensures .0) _ (g .get-raw .ensures) _ (o .old-value .ensures) (c .if3 .taken)
+    updating.same-old (s .pre) _ _ (v .value .ensures) _ (i .home .ensures) _ (g .get-raw .ensures) _ (o .old-value .ensures) (c .if3 .taken)
 
 place-requires : tie.Need-place-requires
 place-requires c κs =
@@ -77,16 +65,7 @@ place-requires c κs =
     let i = g .before .before in
     let v = i .before .before .before in
     let s = v .before .before .before .before in
-    updating.placeable (s .pre) _ _ (v .value-of .ensures .0) _ (i .slot-of .ensures .0) _ (g .get-raw .ensures) _ (o .old-value .ensures) (t .if3 .left) (v .value-of .ensures .1)
-
-same-length-4 : tie.Need-same-length-4
-same-length-4 c = search needs
-
-same-length-5 : tie.Need-same-length-5
-same-length-5 c = search needs
-
-same-length-6 : tie.Need-same-length-6
-same-length-6 c = search needs
+    updating.placeable (s .pre) _ _ (v .value .ensures) _ (i .home .ensures) _ (g .get-raw .ensures) _ (o .old-value .ensures) (t .if3 .left) (omega (arith, v .value .ensures))
 
 returns-4 : tie.Need-returns-4
 returns-4 c =
@@ -97,7 +76,7 @@ returns-4 c =
     let i = g .before .before in
     let v = i .before .before .before in
     let s = v .before .before .before .before in
-    updating.refused (s .pre) _ _ (v .value-of .ensures .0) _ (i .slot-of .ensures .0) _ (g .get-raw .ensures) _ (o .old-value .ensures) (t .if3 .left) _ _ _ _ (p .place .ensures) (not-true _ (c .if4 .taken))
+    updating.refused (s .pre) _ _ (v .value .ensures) _ (i .home .ensures) _ (g .get-raw .ensures) _ (o .old-value .ensures) (t .if3 .left) _ _ _ _ (p .place .ensures) (not-true _ (c .if4 .taken))
 
 settle-requires : tie.Need-settle-requires
 settle-requires c κs =
@@ -109,16 +88,7 @@ settle-requires c κs =
     let i = g .before .before in
     let v = i .before .before .before in
     let s = v .before .before .before .before in
-    updating.holding (s .pre) _ _ (v .value-of .ensures .0) _ (i .slot-of .ensures .0) _ (g .get-raw .ensures) _ (o .old-value .ensures) (t .if3 .left) _ _ _ _ (p .place .ensures) (not-false _ (k .if4 .left)) _ (omega (arith, s .pre .spare, p .place .kept .1 .1 .0, p .place .kept .1 .1 .1 .0))
-
-same-length-7 : tie.Need-same-length-7
-same-length-7 c = search needs
-
-same-length-8 : tie.Need-same-length-8
-same-length-8 c = search needs
-
-same-length-9 : tie.Need-same-length-9
-same-length-9 c = search needs
+    updating.holding (s .pre) _ _ (v .value .ensures) _ (i .home .ensures) _ (g .get-raw .ensures) _ (o .old-value .ensures) (t .if3 .left) _ _ _ _ (p .place .ensures) (not-false _ (k .if4 .left)) _ (omega (arith, s .pre .spare, p .place .kept .1 .1 .0, p .place .kept .1 .1 .1 .0))
 
 returns-5 : tie.Need-returns-5
 returns-5 c =
@@ -131,30 +101,12 @@ returns-5 c =
     let i = g .before .before in
     let v = i .before .before .before in
     let s = v .before .before .before .before in
-    updating.stepped (s .pre) _ _ (v .value-of .ensures .0) _ (i .slot-of .ensures .0) _ (g .get-raw .ensures) _ (o .old-value .ensures) (t .if3 .left) _ _ _ _ (p .place .ensures) (not-false _ (k .if4 .left)) (e .settle .ensures)
+    updating.stepped (s .pre) _ _ (v .value .ensures) _ (i .home .ensures) _ (g .get-raw .ensures) _ (o .old-value .ensures) (t .if3 .left) _ _ _ _ (p .place .ensures) (not-false _ (k .if4 .left)) (e .settle .ensures)
 
 pub update-spec : {M : Type 1} → statement M
 update-spec =
     tie.close
-    (tie.spec
-    value-of-requires
-    returns
-    slot-of-requires
-    get-raw-requires
-    add-if2
-    same-length
-    returns-2
-    old-value-requires
-    same-length-2
-    same-length-3
-    returns-3
-    place-requires
-    same-length-4
-    same-length-5
-    same-length-6
-    returns-4
-    settle-requires
-    same-length-7
-    same-length-8
-    same-length-9
-    returns-5)
+    (tie.spec (λ value-requires κs. search needs) returns home-requires get-raw-requires add-if2 (λ same-length. search needs) returns-2
+    old-value-requires (λ same-length-2. search needs) (λ same-length-3. search needs) returns-3 place-requires (λ same-length-4. search needs)
+    (λ same-length-5. search needs) (λ same-length-6. search needs) returns-4 settle-requires (λ same-length-7. search needs)
+    (λ same-length-8. search needs) (λ same-length-9. search needs) returns-5)

@@ -42,12 +42,6 @@ get-requires c κs =
     let start = raw .before .before .before in
     held.room _ _ _ (start .pre .four) (start .pre .good) _ _ (start .pre .inside) (raw .get-raw .ensures) (c .before .before .if1 .left) _ (c .before .table-len .ensures)
 
-enum-known-value : tie.Need-enum-known-value
-enum-known-value c = search needs
-
-enum-told : tie.Need-enum-told
-enum-told c = search needs
-
 -- what the search yields, in either arm
 yields : (c : tie.After-get) → let start = c .before .before .before .before .before .before .before in
     c .get .result ≡ Value (getD (registers (start .args .s) (start .args .regs .now) (start .args .aux .now)) (start .args .slot) 0)
@@ -69,14 +63,5 @@ returns-3 c =
 pub get-spec : {M : Type 1} → statement M
 get-spec =
     tie.close
-    (tie.spec
-    get-raw-requires
-    add-result
-    returns
-    table-len-requires
-    slice-aggregate-get
-    get-requires
-    enum-known-value
-    enum-told
-    returns-2
-    returns-3)
+    (tie.spec get-raw-requires add-result returns table-len-requires slice-aggregate-get get-requires (λ enum-known-value. search needs)
+    (λ enum-told. search needs) returns-2 returns-3)

@@ -12,12 +12,6 @@ returns c =
     let start = c .before .before .before .before in
     passing.refused _ _ (start .pre) _ (λ t. c .if1 .taken (passing.asks-tokens _ _ (start .pre) _ t))
 
-base-for-requires : tie.Need-base-for-requires
-base-for-requires c κs = search needs
-
-cast-check : tie.Need-cast-check
-cast-check c = search needs
-
 check-requires : tie.Need-check-requires
 check-requires c κs = rw (c .before .base-for .ensures) (passing.is-based _ _ (c .before .before .before .before .before .before .pre))
 
@@ -30,9 +24,6 @@ returns-2 c =
 ordered : (c : tie.Else2) → let start = c .before .before .before .before .before .before .before .before in
     Ordered (baseFor (start .args .s .«lg_k»)) (start .args .s .«aux_count») (start .args .aux .now)
 ordered c = rw (← c .before .before .before .base-for .ensures) (c .before .check .ensures .0 (not-false _ (c .if2 .left)))
-
-table-len-requires : tie.Need-table-len-requires
-table-len-requires c κs = search needs
 
 slice-aggregate-words-fit : tie.Need-slice-aggregate-words-fit
 slice-aggregate-words-fit c =
@@ -51,13 +42,5 @@ returns-3 c =
 pub table-fits-spec : {M : Type 1} → statement M
 table-fits-spec =
     tie.close
-    (tie.spec
-    returns
-    base-for-requires
-    cast-check
-    check-requires
-    returns-2
-    table-len-requires
-    slice-aggregate-words-fit
-    words-fit-requires
-    returns-3)
+    (tie.spec returns (λ base-for-requires κs. search needs) (λ cast-check. search needs) check-requires returns-2
+    (λ table-len-requires κs. search needs) slice-aggregate-words-fit words-fit-requires returns-3)

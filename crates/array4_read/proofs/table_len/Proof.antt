@@ -4,12 +4,6 @@ use borrow.Author.Needs.{needs}
 use Rattle.array4_read.proofs.table_len.Statement.{statement}
 use Rattle.array4_read.proofs.table_len.Tie as tie
 
-base-for-requires : tie.Need-base-for-requires
-base-for-requires c κs = search needs
-
-cast-table-size : tie.Need-cast-table-size
-cast-table-size c = search needs
-
 table-size-requires : tie.Need-table-size-requires
 table-size-requires c κs =
     let start = c .before .before in
@@ -19,4 +13,6 @@ returns : tie.Need-returns
 returns c = rw (← c .before .before .base-for .ensures) (c .table-size .ensures)
 
 pub table-len-spec : {M : Type 1} → statement M
-table-len-spec = tie.close (tie.spec base-for-requires cast-table-size table-size-requires returns)
+table-len-spec =
+    tie.close
+    (tie.spec (λ base-for-requires κs. search needs) (λ cast-table-size. search needs) table-size-requires returns)

@@ -7,8 +7,8 @@ use lib.ListN.{length, getD}
 use borrow.Author.Count.{below-more, below-none}
 use borrow.Author.Needs.{needs}
 use borrow.Author.Tests.{not-true, not-false}
-use Rattle.model.proofs.FirstLaws.{true-not-false}
-use Rattle.model.proofs.Tells.{tells-no}
+use Rattle.model.proofs.table.FirstLaws.{true-not-false}
+use Rattle.model.proofs.order.Tells.{tells-no}
 use Rattle.array4_read.specs.Fits.{WordIn}
 use Rattle.array4_read.proofs.words_fit.Statement.{statement}
 use Rattle.array4_read.proofs.words_fit.Tie as tie
@@ -22,26 +22,11 @@ abbrev μ-loop : tie.MeasureT-loop
 loop-holds : tie.Need-loop-holds Inv-loop μ-loop
 loop-holds c = (omega arith, below-none _)
 
-mul-w : tie.Need-mul-w Inv-loop μ-loop
-mul-w c = search needs
-
-shared-slice-read-w : tie.Need-shared-slice-read-w Inv-loop μ-loop
-shared-slice-read-w c = search needs
-
-word-fits-requires : tie.Need-word-fits-requires Inv-loop μ-loop
-word-fits-requires c κs = search needs
-
 returns : tie.Need-returns Inv-loop μ-loop
 returns c =
     let met = c .before .before in
     let l = met .before .before .before in
     tells-no (λ h. c .before .word-fits .ensures .1 (not-true _ (c .if2 .taken)) (h .each (l .loop .i) (met .before .before .loop-test .taken) (met .if1 .taken)))
-
-add-i : tie.Need-add-i Inv-loop μ-loop
-add-i c = search needs
-
-loop-less : tie.Need-loop-less Inv-loop μ-loop
-loop-less c = search needs
 
 loop-again : tie.Need-loop-again Inv-loop μ-loop
 loop-again c =
@@ -56,15 +41,5 @@ returns-2 c =
 pub words-fit-spec : {M : Type 1} → statement M
 words-fit-spec =
     tie.close
-    (tie.spec
-    Inv-loop
-    μ-loop
-    loop-holds
-    mul-w
-    shared-slice-read-w
-    word-fits-requires
-    returns
-    add-i
-    loop-less
-    loop-again
-    returns-2)
+    (tie.spec Inv-loop μ-loop loop-holds (λ mul-w. search needs) (λ shared-slice-read-w. search needs) (λ word-fits-requires κs. search needs) returns
+    (λ add-i. search needs) (λ loop-less. search needs) loop-again returns-2)

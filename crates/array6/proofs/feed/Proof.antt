@@ -5,7 +5,7 @@ use native.Mathlib.Omega.{arith}
 use lib.ListN.{length, drop}
 use Rattle.model.specs.Registers.{fed, countOf}
 use Rattle.model.specs.Packed.{Bytes, unpacked, packed}
-use Rattle.array8.proofs.Turns.{fed-turn, fed-end}
+use Rattle.model.proofs.registers.Turns.{fed-turn, fed-end}
 use Rattle.array6.specs.Asked.{Ready6}
 use Rattle.array6.proofs.Coupons.{ready-kept, taken-fed, ready-next}
 use borrow.Author.Needs.{needs}
@@ -21,20 +21,8 @@ abbrev μ-loop : tie.MeasureT-loop
 loop-holds : tie.Need-loop-holds Inv-loop μ-loop
 loop-holds c = (c .before .before .pre, (λ i. c .before .slice-known .given i .fits), refl, refl)
 
-mul-update : tie.Need-mul-update Inv-loop μ-loop
-mul-update c = search needs
-
-shared-slice-read-update : tie.Need-shared-slice-read-update Inv-loop μ-loop
-shared-slice-read-update c = search needs
-
 update-requires : tie.Need-update-requires Inv-loop μ-loop
 update-requires c κs = c .before .before .before .loop .inv .0 .counted
-
-add-i : tie.Need-add-i Inv-loop μ-loop
-add-i c = search needs
-
-loop-less : tie.Need-loop-less Inv-loop μ-loop
-loop-less c = search needs
 
 loop-again : tie.Need-loop-again Inv-loop μ-loop
 loop-again c =
@@ -46,9 +34,6 @@ loop-again c =
       fed-turn _ _ _ _ _ (loop .i) (omega arith) (taken-fed (loop .inv .0) (loop .inv .1) _ (turn .ensures)) (loop .inv .3),
     )
 
-same-length : tie.Need-same-length Inv-loop μ-loop
-same-length c = search needs
-
 returns : tie.Need-returns Inv-loop μ-loop
 returns c =
     let loop = c .before .loop in
@@ -58,15 +43,5 @@ returns c =
 pub feed-spec : {M : Type 1} → statement M
 feed-spec =
     tie.close
-    (tie.spec
-    Inv-loop
-    μ-loop
-    loop-holds
-    mul-update
-    shared-slice-read-update
-    update-requires
-    add-i
-    loop-less
-    loop-again
-    same-length
-    returns)
+    (tie.spec Inv-loop μ-loop loop-holds (λ mul-update. search needs) (λ shared-slice-read-update. search needs) update-requires
+    (λ add-i. search needs) (λ loop-less. search needs) loop-again (λ same-length. search needs) returns)

@@ -1,23 +1,14 @@
 -- `array6::update` meets its contract: the coupon changes nothing, is the first for its register, or a larger one. Assumes nothing.
 use native.Mathlib.Omega.{arith}
-use Rattle.array8.proofs.Masks.{home-in}
+use Rattle.coupon.proofs.Masks.{home-in}
 use Rattle.array6.proofs.Six.{inside-6}
 use Rattle.array6.proofs.Coupons.{coupon-stays, coupon-first, coupon-again}
 use borrow.Author.Needs.{needs}
 use Rattle.array6.proofs.update.Statement.{statement}
 use Rattle.array6.proofs.update.Tie as tie
 
-home-requires : tie.Need-home-requires
-home-requires c κs = search needs
-
-value-requires : tie.Need-value-requires
-value-requires c κs = search needs
-
 get-requires : tie.Need-get-requires
 get-requires c κs = inside-6 (c .before .before .before .before .pre .shaped) (rw (c .before .before .home .ensures) (home-in _ _))
-
-same-length : tie.Need-same-length
-same-length c = search needs
 
 returns : tie.Need-returns
 returns c =
@@ -37,17 +28,11 @@ sub-result c =
     let start = got .before .before .before .before .before in
     omega (arith, coupon-first (start .pre) _ (got .before .before .before .home .ensures) (got .before .before .value .ensures) (got .get .ensures) (c .before .before .before .before .before .if1 .left) (c .before .before .before .put-raw .ensures) (c .if2 .taken) .0)
 
-same-length-2 : tie.Need-same-length-2
-same-length-2 c = search needs
-
 returns-2 : tie.Need-returns-2
 returns-2 c =
     let got = c .before .before .before .before .before .before in
     let start = got .before .before .before .before .before in
     coupon-first (start .pre) _ (got .before .before .before .home .ensures) (got .before .before .value .ensures) (got .get .ensures) (c .before .before .before .before .before .if1 .left) (c .before .before .before .put-raw .ensures) (c .if2 .taken) .1
-
-same-length-3 : tie.Need-same-length-3
-same-length-3 c = search needs
 
 returns-3 : tie.Need-returns-3
 returns-3 c =
@@ -58,15 +43,5 @@ returns-3 c =
 pub update-spec : {M : Type 1} → statement M
 update-spec =
     tie.close
-    (tie.spec
-    home-requires
-    value-requires
-    get-requires
-    same-length
-    returns
-    put-raw-requires
-    sub-result
-    same-length-2
-    returns-2
-    same-length-3
-    returns-3)
+    (tie.spec (λ home-requires κs. search needs) (λ value-requires κs. search needs) get-requires (λ same-length. search needs) returns
+    put-raw-requires sub-result (λ same-length-2. search needs) returns-2 (λ same-length-3. search needs) returns-3)

@@ -6,7 +6,7 @@ use native.Mathlib.Omega.{arith}
 use lib.ListN.{length, drop, length-set}
 use denote.Ref.{now}
 use Rattle.model.specs.Registers.{poured, joined}
-use Rattle.array8.proofs.Turns.{poured-turn, poured-end, larger-raises}
+use Rattle.model.proofs.registers.Turns.{poured-turn, poured-end, larger-raises}
 use borrow.Author.Needs.{needs}
 use Rattle.array8.proofs.merge_array_same_lgk.Statement.{statement}
 use Rattle.array8.proofs.merge_array_same_lgk.Tie as tie
@@ -17,35 +17,11 @@ Inv-loop target₀ src slot₀ target slot = (length target ≡ length target₀
 abbrev μ-loop : tie.MeasureT-loop
 μ-loop target₀ src slot₀ target slot = length src - slot
 
-loop-holds : tie.Need-loop-holds Inv-loop μ-loop
-loop-holds c = search needs
-
-slice-read-larger : tie.Need-slice-read-larger Inv-loop μ-loop
-slice-read-larger c = search needs
-
-shared-slice-read-larger : tie.Need-shared-slice-read-larger Inv-loop μ-loop
-shared-slice-read-larger c = search needs
-
-larger-requires : tie.Need-larger-requires Inv-loop μ-loop
-larger-requires c κs = search needs
-
-slice-write-target : tie.Need-slice-write-target Inv-loop μ-loop
-slice-write-target c = search needs
-
-add-slot : tie.Need-add-slot Inv-loop μ-loop
-add-slot c = search needs
-
-loop-less : tie.Need-loop-less Inv-loop μ-loop
-loop-less c = search needs
-
 loop-again : tie.Need-loop-again Inv-loop μ-loop
 loop-again c =
     let loop = c .before .before .before .before .loop in
     let inside : loop .slot < length (now (c .before .before .before .before .before .before .before .args .target)) = omega arith in
     (simp length-set (loop .inv .0), poured-turn _ (loop .target) _ _ _ (loop .slot) (omega arith) (larger-raises (loop .target) _ _ _ _ (sym (mod-eq-of-lt inside)) (c .larger .ensures)) (loop .inv .1))
-
-same-length : tie.Need-same-length Inv-loop μ-loop
-same-length c = search needs
 
 returns : tie.Need-returns Inv-loop μ-loop
 returns c = poured-end _ (c .before .loop .target) _ _ _ (c .loop-test .left) (c .before .loop .inv .1)
@@ -53,16 +29,6 @@ returns c = poured-end _ (c .before .loop .target) _ _ _ (c .loop-test .left) (c
 pub merge-array-same-lgk-spec : {M : Type 1} → statement M
 merge-array-same-lgk-spec =
     tie.close
-    (tie.spec
-    Inv-loop
-    μ-loop
-    loop-holds
-    slice-read-larger
-    shared-slice-read-larger
-    larger-requires
-    slice-write-target
-    add-slot
-    loop-less
-    loop-again
-    same-length
-    returns)
+    (tie.spec Inv-loop μ-loop (λ loop-holds. search needs) (λ slice-read-larger. search needs) (λ shared-slice-read-larger. search needs)
+    (λ larger-requires κs. search needs) (λ slice-write-target. search needs) (λ add-slot. search needs) (λ loop-less. search needs) loop-again
+    (λ same-length. search needs) returns)

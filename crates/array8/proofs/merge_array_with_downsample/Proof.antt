@@ -5,7 +5,7 @@ use native.Mathlib.Omega.{arith}
 use lib.ListN.{length, drop, length-set}
 use Rattle.model.specs.Registers.{poured, joined}
 use Rattle.array8.proofs.Masks.{power-some, index-mask, mask-in}
-use Rattle.array8.proofs.Turns.{poured-turn, poured-end, larger-raises}
+use Rattle.model.proofs.registers.Turns.{poured-turn, poured-end, larger-raises}
 use borrow.Author.Needs.{needs}
 use Rattle.array8.proofs.merge_array_with_downsample.Statement.{statement}
 use Rattle.array8.proofs.merge_array_with_downsample.Tie as tie
@@ -19,30 +19,15 @@ abbrev μ-loop : tie.MeasureT-loop
 sub-dst-mask : tie.Need-sub-dst-mask Inv-loop μ-loop
 sub-dst-mask c = omega (arith, power-some (c .before .before .pre .target), c .before .before .pre .most)
 
-loop-holds : tie.Need-loop-holds Inv-loop μ-loop
-loop-holds c = search needs
-
 slice-read-larger : tie.Need-slice-read-larger Inv-loop μ-loop
 slice-read-larger c =
     let loop = c .before .before .loop in
     rw (loop .inv .0) (mask-in (c .before .before .before .before .before .pre .target) (loop .src-slot))
 
-shared-slice-read-larger : tie.Need-shared-slice-read-larger Inv-loop μ-loop
-shared-slice-read-larger c = search needs
-
-larger-requires : tie.Need-larger-requires Inv-loop μ-loop
-larger-requires c κs = search needs
-
 slice-write-target : tie.Need-slice-write-target Inv-loop μ-loop
 slice-write-target c =
     let loop = c .before .before .before .before .loop in
     rw (loop .inv .0) (mask-in (c .before .before .before .before .before .before .before .pre .target) (loop .src-slot))
-
-add-src-slot : tie.Need-add-src-slot Inv-loop μ-loop
-add-src-slot c = search needs
-
-loop-less : tie.Need-loop-less Inv-loop μ-loop
-loop-less c = search needs
 
 loop-again : tie.Need-loop-again Inv-loop μ-loop
 loop-again c =
@@ -50,26 +35,12 @@ loop-again c =
     let start = c .before .before .before .before .before .before .before in
     (simp length-set (loop .inv .0), poured-turn _ (loop .target) _ _ _ (loop .src-slot) (omega arith) (larger-raises (loop .target) _ _ _ _ (index-mask (start .pre .target) (loop .src-slot)) (c .larger .ensures)) (loop .inv .1))
 
-same-length : tie.Need-same-length Inv-loop μ-loop
-same-length c = search needs
-
 returns : tie.Need-returns Inv-loop μ-loop
 returns c = poured-end _ (c .before .loop .target) _ _ _ (c .loop-test .left) (c .before .loop .inv .1)
 
 pub merge-array-with-downsample-spec : {M : Type 1} → statement M
 merge-array-with-downsample-spec =
     tie.close
-    (tie.spec
-    Inv-loop
-    μ-loop
-    sub-dst-mask
-    loop-holds
-    slice-read-larger
-    shared-slice-read-larger
-    larger-requires
-    slice-write-target
-    add-src-slot
-    loop-less
-    loop-again
-    same-length
-    returns)
+    (tie.spec Inv-loop μ-loop sub-dst-mask (λ loop-holds. search needs) slice-read-larger (λ shared-slice-read-larger. search needs)
+    (λ larger-requires κs. search needs) slice-write-target (λ add-src-slot. search needs) (λ loop-less. search needs) loop-again
+    (λ same-length. search needs) returns)

@@ -5,7 +5,7 @@ use native.Mathlib.Omega.{arith}
 use lib.ListN.{length, drop, length-set}
 use Rattle.model.specs.Registers.{poured}
 use Rattle.array8.proofs.Masks.{power-some, block-in, block-mask}
-use Rattle.array8.proofs.Turns.{poured-first, poured-next, poured-last, larger-raises}
+use Rattle.model.proofs.registers.Turns.{poured-first, poured-next, poured-last, larger-raises}
 use borrow.Author.Needs.{needs}
 use Rattle.array8.proofs.merge_block.Statement.{statement}
 use Rattle.array8.proofs.merge_block.Tie as tie
@@ -28,20 +28,8 @@ add-at c = omega (arith, block-in (c .before .before .before .before .pre))
 slice-read-larger : tie.Need-slice-read-larger Inv-loop μ-loop
 slice-read-larger c = omega (arith, block-in (c .before .before .before .before .before .pre), c .before .before .loop .inv .0)
 
-shared-slice-read-larger : tie.Need-shared-slice-read-larger Inv-loop μ-loop
-shared-slice-read-larger c = search needs
-
-larger-requires : tie.Need-larger-requires Inv-loop μ-loop
-larger-requires c κs = search needs
-
 slice-write-target : tie.Need-slice-write-target Inv-loop μ-loop
 slice-write-target c = omega (arith, block-in (c .before .before .before .before .before .before .before .pre), c .before .before .before .before .loop .inv .0)
-
-add-i : tie.Need-add-i Inv-loop μ-loop
-add-i c = search needs
-
-loop-less : tie.Need-loop-less Inv-loop μ-loop
-loop-less c = search needs
 
 loop-again : tie.Need-loop-again Inv-loop μ-loop
 loop-again c =
@@ -49,27 +37,12 @@ loop-again c =
     let start = c .before .before .before .before .before .before .before in
     (simp length-set (loop .inv .0), poured-next _ (loop .target) _ _ _ _ (loop .i) (c .before .before .before .loop-test .taken) (larger-raises (loop .target) _ _ _ _ (block-mask (start .pre) (loop .i) (c .before .before .before .loop-test .taken)) (c .larger .ensures)) (loop .inv .1))
 
-same-length : tie.Need-same-length Inv-loop μ-loop
-same-length c = search needs
-
 returns : tie.Need-returns Inv-loop μ-loop
 returns c = poured-last _ (c .before .loop .target) _ _ _ (c .before .loop .i) (c .loop-test .left) (c .before .loop .inv .1)
 
 pub merge-block-spec : {M : Type 1} → statement M
 merge-block-spec =
     tie.close
-    (tie.spec
-    Inv-loop
-    μ-loop
-    sub-first-dst
-    loop-holds
-    add-at
-    slice-read-larger
-    shared-slice-read-larger
-    larger-requires
-    slice-write-target
-    add-i
-    loop-less
-    loop-again
-    same-length
-    returns)
+    (tie.spec Inv-loop μ-loop sub-first-dst loop-holds add-at slice-read-larger (λ shared-slice-read-larger. search needs)
+    (λ larger-requires κs. search needs) slice-write-target (λ add-i. search needs) (λ loop-less. search needs) loop-again
+    (λ same-length. search needs) returns)

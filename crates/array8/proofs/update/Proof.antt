@@ -5,26 +5,14 @@ use borrow.Author.Needs.{needs}
 use Rattle.array8.proofs.update.Statement.{statement}
 use Rattle.array8.proofs.update.Tie as tie
 
-home-requires : tie.Need-home-requires
-home-requires c κs = search needs
-
-value-requires : tie.Need-value-requires
-value-requires c κs = search needs
-
 get-requires : tie.Need-get-requires
 get-requires c κs = home-inside (c .before .before .before .before .pre) _ (c .before .before .home .ensures)
-
-same-length : tie.Need-same-length
-same-length c = search needs
 
 returns : tie.Need-returns
 returns c =
     let got = c .before in
     let start = got .before .before .before .before .before in
     coupon-stays (start .pre) _ (got .before .before .before .home .ensures) (got .before .before .value .ensures) (got .get .ensures) (c .if1 .taken)
-
-cast-regs : tie.Need-cast-regs
-cast-regs c = search needs
 
 slice-write-regs : tie.Need-slice-write-regs
 slice-write-regs c = home-inside (c .before .before .before .before .before .before .pre) _ (c .before .before .before .before .home .ensures)
@@ -35,17 +23,11 @@ sub-result c =
     let start = got .before .before .before .before .before in
     omega (arith, coupon-first (start .pre) _ (got .before .before .before .home .ensures) (got .before .before .value .ensures) (got .get .ensures) (c .before .if1 .left) (c .if2 .taken) .0)
 
-same-length-2 : tie.Need-same-length-2
-same-length-2 c = search needs
-
 returns-2 : tie.Need-returns-2
 returns-2 c =
     let got = c .before .before in
     let start = got .before .before .before .before .before in
     coupon-first (start .pre) _ (got .before .before .before .home .ensures) (got .before .before .value .ensures) (got .get .ensures) (c .before .if1 .left) (c .if2 .taken) .1
-
-same-length-3 : tie.Need-same-length-3
-same-length-3 c = search needs
 
 returns-3 : tie.Need-returns-3
 returns-3 c =
@@ -56,16 +38,5 @@ returns-3 c =
 pub update-spec : {M : Type 1} → statement M
 update-spec =
     tie.close
-    (tie.spec
-    home-requires
-    value-requires
-    get-requires
-    same-length
-    returns
-    cast-regs
-    slice-write-regs
-    sub-result
-    same-length-2
-    returns-2
-    same-length-3
-    returns-3)
+    (tie.spec (λ home-requires κs. search needs) (λ value-requires κs. search needs) get-requires (λ same-length. search needs) returns
+    (λ cast-regs. search needs) slice-write-regs sub-result (λ same-length-2. search needs) returns-2 (λ same-length-3. search needs) returns-3)

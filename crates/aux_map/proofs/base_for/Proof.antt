@@ -10,12 +10,6 @@ use borrow.Author.Needs.{needs}
 use Rattle.aux_map.proofs.base_for.Statement.{statement}
 use Rattle.aux_map.proofs.base_for.Tie as tie
 
-lg-aux-arr-ints-requires : tie.Need-lg-aux-arr-ints-requires
-lg-aux-arr-ints-requires c κs = search needs
-
-cast-result : tie.Need-cast-result
-cast-result c = search needs
-
 small : (c : tie.After-lg-aux-arr-ints) → c .lg-aux-arr-ints .result ≤ 18
 small c = omega (arith, c .lg-aux-arr-ints .ensures, exponent-most _ (c .before .pre .below))
 
@@ -29,4 +23,6 @@ returns c =
     ap (λ (x : ℕ). x % 2 ^ 64) (one-mul (2 ^ c .lg-aux-arr-ints .result)) ∙ mod-eq-of-lt (pow-lt below) ∙ ap (λ (e : ℕ). 2 ^ e) (c .lg-aux-arr-ints .ensures)
 
 pub base-for-spec : {M : Type 1} → statement M
-base-for-spec = tie.close (tie.spec lg-aux-arr-ints-requires cast-result shl-result returns)
+base-for-spec =
+    tie.close
+    (tie.spec (λ lg-aux-arr-ints-requires κs. search needs) (λ cast-result. search needs) shl-result returns)

@@ -5,20 +5,8 @@ use borrow.Author.Needs.{needs}
 use Rattle.aux_map.proofs.check_grow.Statement.{statement}
 use Rattle.aux_map.proofs.check_grow.Tie as tie
 
-mul-if1 : tie.Need-mul-if1
-mul-if1 c = search needs
-
-mul-if1-2 : tie.Need-mul-if1-2
-mul-if1-2 c = search needs
-
 returns : tie.Need-returns
 returns c = growing.stays _ _ _ _ (c .before .before .before .pre) (c .if1 .taken)
-
-add-twice : tie.Need-add-twice
-add-twice c = search needs
-
-slice-reshare-prefix-copy : tie.Need-slice-reshare-prefix-copy
-slice-reshare-prefix-copy c = search needs
 
 slice-aggregate-copy : tie.Need-slice-aggregate-copy
 slice-aggregate-copy c = sym (growing.table-length _ _ _ _ (c .before .before .before .before .pre))
@@ -61,12 +49,6 @@ grow-requires c κs =
     let h = d .before .before .before in
     growing.doubled _ _ _ _ (h .before .before .before .pre) (h .if1 .left) _ (d .copy .ensures)
 
-same-length : tie.Need-same-length
-same-length c = search needs
-
-same-length-2 : tie.Need-same-length-2
-same-length-2 c = search needs
-
 returns-2 : tie.Need-returns-2
 returns-2 c =
     let g = c .before .before in
@@ -77,21 +59,6 @@ returns-2 c =
 pub check-grow-spec : {M : Type 1} → statement M
 check-grow-spec =
     tie.close
-    (tie.spec
-    mul-if1
-    mul-if1-2
-    returns
-    add-twice
-    slice-reshare-prefix-copy
-    slice-aggregate-copy
-    slice-relend-prefix-copy
-    slice-aggregate-copy-2
-    copy-requires
-    slice-reshare-prefix-grow
-    slice-aggregate-grow
-    slice-relend-prefix-grow
-    slice-aggregate-grow-2
-    grow-requires
-    same-length
-    same-length-2
-    returns-2)
+    (tie.spec (λ mul-if1. search needs) (λ mul-if1-2. search needs) returns (λ add-twice. search needs) (λ slice-reshare-prefix-copy. search needs)
+    slice-aggregate-copy slice-relend-prefix-copy slice-aggregate-copy-2 copy-requires slice-reshare-prefix-grow slice-aggregate-grow
+    slice-relend-prefix-grow slice-aggregate-grow-2 grow-requires (λ same-length. search needs) (λ same-length-2. search needs) returns-2)

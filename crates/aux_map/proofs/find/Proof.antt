@@ -6,13 +6,10 @@ use borrow.Author.Needs.{needs}
 use borrow.Author.Tests.{eq-eqb, ne-eqb}
 use lib.ListN.{length}
 use Rattle.model.specs.Table.{wordAt}
-use Rattle.model.proofs.Search.{place-lt}
+use Rattle.model.proofs.table.Search.{place-lt}
 use Rattle.aux_map.specs.Search.{finds}
 use Rattle.aux_map.proofs.find.Statement.{statement}
 use Rattle.aux_map.proofs.find.Tie as tie
-
-probe-requires : tie.Need-probe-requires
-probe-requires c κs = search needs
 
 inside : (c : tie.After-probe) → c .probe .result < length (c .before .before .args .table .now)
 inside c = let s = c .before .before in subst (λ (p : ℕ). p < length (s .args .table .now)) (sym (c .probe .ensures)) (place-lt (s .args .table .now) (s .args .slot) (s .pre))
@@ -32,4 +29,6 @@ unfolding finds wordAt
 returns-2 c = rw (← c .before .before .probe .ensures, ne-eqb _ 0 (c .if1 .left))
 
 pub find-spec : {M : Type 1} → statement M
-find-spec = tie.close (tie.spec probe-requires mul-if1 shared-slice-read-if1 returns returns-2)
+find-spec =
+    tie.close
+    (tie.spec (λ probe-requires κs. search needs) mul-if1 shared-slice-read-if1 returns returns-2)

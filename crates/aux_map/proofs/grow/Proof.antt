@@ -8,9 +8,9 @@ use native.Mathlib.Omega.{arith}
 use borrow.Author.Needs.{needs}
 use lib.ListN.{length, take, replicate}
 use lib.Seq.{take-length}
-use Rattle.model.specs.Table.{Room, refill, grown}
-use Rattle.model.proofs.Search.{place-lt}
-use Rattle.model.proofs.Refill.{part-length, part-room, part-put, part-skip}
+use Rattle.model.specs.Table.{Room, place, refill, grown}
+use Rattle.model.proofs.table.Search.{place-lt}
+use Rattle.model.proofs.table.Refill.{part-length, part-room, part-put, part-skip}
 use Rattle.aux_map.proofs.grow.Statement.{statement}
 use Rattle.aux_map.proofs.grow.Tie as tie
 
@@ -20,20 +20,11 @@ Inv-loop table into₀ i₀ into i = (i ≤ length table) × (into ≡ refill (r
 abbrev μ-loop : tie.MeasureT-loop
 μ-loop table into₀ i₀ into i = length table - i
 
-clear-requires : tie.Need-clear-requires Inv-loop μ-loop
-clear-requires c κs = search needs
-
 loop-holds : tie.Need-loop-holds Inv-loop μ-loop
 unfolding refill
 loop-holds c =
     let s = c .before .before .before .before .before .before in
     (omega arith, c .before .before .clear .ensures ∙ ap (λ (n : ℕ). replicate n 0) (s .pre .twice))
-
-mul-w : tie.Need-mul-w Inv-loop μ-loop
-mul-w c = omega arith
-
-shared-slice-read-w : tie.Need-shared-slice-read-w Inv-loop μ-loop
-shared-slice-read-w c = omega arith
 
 -- the table at a loop's head, and its room while there is a word to re-insert
 abbrev table : tie.At-loop Inv-loop μ-loop → List ℕ
@@ -45,33 +36,27 @@ room l h =
     (part-room (table l) (l .before .before .before .before .before .before .before .pre .lg) (l .loop .i) (l .before .before .before .before .before .before .before .pre .size) h)
 
 probe-requires : tie.Need-probe-requires Inv-loop μ-loop
-probe-requires c κs = room (c .before .before .before .before) (c .before .before .before .loop-test .taken)
+probe-requires c κs = room (c .before .before .before .before .before) (c .before .before .before .before .loop-test .taken)
 
-inside : (c : tie.After-probe Inv-loop μ-loop) → c .probe .result < length (c .before .before .before .before .before .loop .into)
+inside : (c : tie.After-probe Inv-loop μ-loop) → c .probe .result < length (c .before .before .before .before .before .before .loop .into)
 inside c =
-    let l = c .before .before .before .before .before in
-    subst (λ (p : ℕ). p < length (l .loop .into)) (sym (c .probe .ensures)) (place-lt (l .loop .into) _ (room l (c .before .before .before .before .loop-test .taken)))
+    let l = c .before .before .before .before .before .before in
+    subst (λ (p : ℕ). p < length (l .loop .into)) (sym (c .probe .ensures)) (place-lt (l .loop .into) _ (room l (c .before .before .before .before .before .loop-test .taken)))
 
 mul-into : tie.Need-mul-into Inv-loop μ-loop
 mul-into c =
-    let l = c .before .before .before .before .before in
+    let l = c .before .before .before .before .before .before in
     omega (arith, inside c, ap length (l .loop .inv .1), part-length (table l) (l .loop .i), l .before .before .before .before .before .before .before .good .0 .1)
 
 slice-write-into : tie.Need-slice-write-into Inv-loop μ-loop
 slice-write-into c = inside c
-
-add-i : tie.Need-add-i Inv-loop μ-loop
-add-i c = omega arith
-
-loop-less : tie.Need-loop-less Inv-loop μ-loop
-loop-less c = omega arith
 
 loop-again : tie.Need-loop-again Inv-loop μ-loop
 loop-again c =
     let l = c .before .before .before in
     let h : l .loop .i < length (table l) = omega arith in
     ⊎-elim
-    (λ w. (omega arith, w .3 ∙ part-put (table l) (l .loop .into) (l .loop .i) h (l .loop .inv .1) _ (w .0 .taken) (w .2 .ensures)))
+    (λ w. (omega arith, w .4 ∙ part-put (table l) (l .loop .into) (l .loop .i) h (l .loop .inv .1) _ (w .0 .taken) (w .3 .ensures ∙ ap (place (l .loop .into)) (w .2 .ensures))))
     (λ w. (omega arith, w .1 ∙ part-skip (table l) (l .loop .into) (l .loop .i) h (l .loop .inv .1) (w .0 .left)))
     (c .if1 .came)
 
@@ -90,18 +75,6 @@ returns c =
 pub grow-spec : {M : Type 1} → statement M
 grow-spec =
     tie.close
-    (tie.spec
-    Inv-loop
-    μ-loop
-    clear-requires
-    loop-holds
-    mul-w
-    shared-slice-read-w
-    probe-requires
-    mul-into
-    slice-write-into
-    add-i
-    loop-less
-    loop-again
-    same-length
-    returns)
+    (tie.spec Inv-loop μ-loop (λ clear-requires κs. search needs) loop-holds (λ mul-w. omega arith) (λ shared-slice-read-w. omega arith)
+    (λ slot-requires κs. search needs) probe-requires mul-into slice-write-into (λ add-i. omega arith) (λ loop-less. omega arith) loop-again
+    same-length returns)

@@ -7,9 +7,11 @@ use Prim.Native.Nat.{ℕ, suc, _+_, _*_, _/_, _%_, _^_, _≤_, _<_}
 use native.Mathlib.Omega.{arith}
 use native.Mathlib.Nat.{div-le-self, mod-lt}
 use lib.ListN.{length, getD}
+use Rattle.model.specs.Coupon.{slot}
 use Rattle.model.specs.Table.{Room, stops, stride, stepsFrom, placeFrom, place}
-use Rattle.model.proofs.Search.{size-pos, stride-odd, onward, onward-place, stopped, stops-empty, stops-slot, stops-not}
+use Rattle.model.proofs.table.Search.{size-pos, stride-odd, onward, onward-place, stopped, stops-empty, stops-slot, stops-not}
 use Rattle.aux_map.specs.Sizes.{Power}
+use borrow.Author.Needs.{needs}
 use Rattle.aux_map.proofs.probe.Statement.{statement}
 use Rattle.aux_map.proofs.probe.Tie as tie
 
@@ -31,7 +33,7 @@ module _ (t : List ℕ) (s : ℕ) (room : Room t) where
     found : stops s (getD t at 0) ≡ true → at ≡ place t s
     found h = sym (stopped t s _ room (stride-odd (length t) s) at (inv .0) h) ∙ inv .1
 
-    module _ (empty : getD t at 0 ≡ 0 → ⊥) (other : getD t at 0 % 67108864 ≡ s → ⊥) (q : ℕ) (by : q ≡ s / length t) (next : ℕ) (is : next ≡ (at + (q / 2 * 2 + 1)) % length t) where
+    module _ (empty : getD t at 0 ≡ 0 → ⊥) (other : slot (getD t at 0) ≡ s → ⊥) (q : ℕ) (by : q ≡ s / length t) (next : ℕ) (is : next ≡ (at + (q / 2 * 2 + 1)) % length t) where
       e : next ≡ (at + stride (length t) s) % length t
       e = is ∙ ap (λ (x : ℕ). (at + (x / 2 * 2 + 1)) % length t) by
 
@@ -66,54 +68,34 @@ wrap-requires c κs = let s = c .before .before in power _ (s .args .slot) (s .p
 loop-holds : tie.Need-loop-holds Inv-loop μ-loop
 loop-holds c = let s = c .before .before .before in begins _ _ (s .pre) _ (c .wrap .ensures)
 
-mul-w : tie.Need-mul-w Inv-loop μ-loop
-mul-w c = omega arith
-
-shared-slice-read-w : tie.Need-shared-slice-read-w Inv-loop μ-loop
-shared-slice-read-w c = omega arith
-
 add-wrap : tie.Need-add-wrap Inv-loop μ-loop
-add-wrap c = omega (arith, below (c .before .before .before .before .before), c .before .before .before .loop .inv .0)
+add-wrap c = omega (arith, below (c .before .before .before .before .before .before), c .before .before .before .before .loop .inv .0)
 
 wrap-requires-2 : tie.Need-wrap-requires-2 Inv-loop μ-loop
-wrap-requires-2 c κs = let s = c .before .before .before .before .before .before .before in power _ (s .args .slot) (s .pre)
+wrap-requires-2 c κs = let s = c .before .before .before .before .before .before .before .before in power _ (s .args .slot) (s .pre)
 
 loop-less : tie.Need-loop-less Inv-loop μ-loop
 loop-less c =
     let o = c .before in
-    let l = o .before .before .before in
+    let l = o .before .before .before .before in
     let q = l .before .before in
-    fewer _ _ (q .before .before .pre) _ (l .loop .inv) (o .before .if1 .left) (o .if2 .left) _ (q .quotient .ensures) _ (c .wrap2 .ensures)
+    fewer _ _ (q .before .before .pre) _ (l .loop .inv) (o .before .before .if1 .left) (λ e. o .if2 .left (o .before .slot .ensures ∙ e)) _ (q .quotient .ensures) _ (c .wrap2 .ensures)
 
 loop-again : tie.Need-loop-again Inv-loop μ-loop
 loop-again c =
     let o = c .before in
-    let l = o .before .before .before in
+    let l = o .before .before .before .before in
     let q = l .before .before in
-    goes-on _ _ (q .before .before .pre) _ (l .loop .inv) (o .before .if1 .left) (o .if2 .left) _ (q .quotient .ensures) _ (c .wrap2 .ensures)
+    goes-on _ _ (q .before .before .pre) _ (l .loop .inv) (o .before .before .if1 .left) (λ e. o .if2 .left (o .before .slot .ensures ∙ e)) _ (q .quotient .ensures) _ (c .wrap2 .ensures)
 
 returns : tie.Need-returns Inv-loop μ-loop
 returns c = let s = c .before .before .before .before .before .before in found _ _ (s .pre) _ (c .before .before .loop .inv) (stops-empty _ _ (c .if1 .taken))
 
 returns-2 : tie.Need-returns-2 Inv-loop μ-loop
-returns-2 c = let s = c .before .before .before .before .before .before .before in found _ _ (s .pre) _ (c .before .before .before .loop .inv) (stops-slot _ _ (c .if2 .taken))
+returns-2 c = let s = c .before .before .before .before .before .before .before .before in found _ _ (s .pre) _ (c .before .before .before .before .loop .inv) (stops-slot _ _ (sym (c .before .slot .ensures) ∙ c .if2 .taken))
 
 pub probe-spec : {M : Type 1} → statement M
 probe-spec =
     tie.close
-    (tie.spec
-    Inv-loop
-    μ-loop
-    quotient-requires
-    mul-step
-    add-step
-    wrap-requires
-    loop-holds
-    mul-w
-    shared-slice-read-w
-    add-wrap
-    wrap-requires-2
-    loop-less
-    loop-again
-    returns
-    returns-2)
+    (tie.spec Inv-loop μ-loop quotient-requires mul-step add-step wrap-requires loop-holds (λ mul-w. omega arith) (λ shared-slice-read-w. omega arith)
+    (λ slot-requires κs. search needs) add-wrap wrap-requires-2 loop-less loop-again returns returns-2)

@@ -41,4 +41,6 @@ returns : tie.Need-returns
 returns c = ap (λ (e : ℕ). c .args .x / 2 ^ e) (zeros _ (c .pre) (search needs)) ∙ ap (λ (n : ℕ). c .args .x / n) (sym (c .pre .power))
 
 pub quotient-spec : {M : Type 1} → statement M
-quotient-spec = tie.close (tie.spec cast-result shr-result returns)
+quotient-spec =
+    tie.close
+    (tie.spec cast-result shr-result returns)

@@ -1,5 +1,5 @@
 -- `aux_map::replace` meets its contract: that a word is there rules out the empty answer. Assumes nothing.
-use Rattle.model.proofs.Search.{set-is-insert}
+use Rattle.model.proofs.table.Search.{set-is-replace}
 use Rattle.aux_map.proofs.Answers.{finds-found, finds-empty, found-lt}
 use Prim.Native.Nat.{_<_}
 use mathlib.Core.Path.{_≡_, sym, _∙_}
@@ -11,18 +11,6 @@ use borrow.Author.Needs.{needs}
 use Rattle.aux_map.proofs.replace.Statement.{statement}
 use Rattle.aux_map.proofs.replace.Tie as tie
 
-find-requires : tie.Need-find-requires
-find-requires c κs = search needs
-
-enum-known-at : tie.Need-enum-known-at
-enum-known-at c = search needs
-
-mul-table : tie.Need-mul-table
-mul-table c = search needs
-
-add-table : tie.Need-add-table
-add-table c = search needs
-
 -- the answer, in its arm
 answer : (c : tie.After-known-told) → let s = c .before .before .before .before .before .before in finds (s .args .table .now) (s .args .slot) ≡ Found (c .before .at .given .0 .0)
 answer c = sym (c .before .before .before .find .ensures) ∙ c .before .at .given .1
@@ -30,23 +18,16 @@ answer c = sym (c .before .before .before .find .ensures) ∙ c .before .at .giv
 inside : (c : tie.After-known-told) → c .before .at .given .0 .0 < length (c .before .before .before .before .before .before .args .table .now)
 inside c = let s = c .before .before .before .before .before .before in found-lt (s .args .table .now) (s .args .slot) _ (s .pre .room) (answer c)
 
-mul-table-2 : tie.Need-mul-table-2
-mul-table-2 c = omega (arith, inside c)
+mul-table : tie.Need-mul-table
+mul-table c = omega (arith, inside (c .before))
 
 slice-write-table : tie.Need-slice-write-table
-slice-write-table c = inside c
-
-enum-told : tie.Need-enum-told
-enum-told c = search needs
-
-same-length : tie.Need-same-length
-same-length c = search needs
+slice-write-table c = inside (c .before)
 
 returns : tie.Need-returns
-returns c = let s = c .before .before .before .before .before .before in set-is-insert (s .args .table .now) (s .args .slot) (s .args .value) _ (s .pre .slot) (finds-found _ _ _ (answer c) .0)
-
-same-length-2 : tie.Need-same-length-2
-same-length-2 c = search needs
+returns c =
+    let s = c .before .before .before .before .before .before .before in
+    rw (c .word .ensures) (set-is-replace (s .args .table .now) (s .args .slot) (s .args .value) _ (s .pre .slot) (finds-found _ _ _ (answer (c .before)) .0))
 
 returns-2 : tie.Need-returns-2
 returns-2 c = absurd (c .before .before .before .before .before .pre .present (finds-empty _ _ _ (sym (c .before .before .find .ensures) ∙ c .enum-told .given .1) .1))
@@ -54,15 +35,5 @@ returns-2 c = absurd (c .before .before .before .before .before .pre .present (f
 pub replace-spec : {M : Type 1} → statement M
 replace-spec =
     tie.close
-    (tie.spec
-    find-requires
-    enum-known-at
-    mul-table
-    add-table
-    mul-table-2
-    slice-write-table
-    enum-told
-    same-length
-    returns
-    same-length-2
-    returns-2)
+    (tie.spec (λ find-requires κs. search needs) (λ enum-known-at. search needs) (λ word-requires κs. search needs) mul-table slice-write-table
+    (λ enum-told. search needs) (λ same-length. search needs) returns (λ same-length-2. search needs) returns-2)

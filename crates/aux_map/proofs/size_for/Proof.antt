@@ -1,13 +1,13 @@
 -- `aux_map::size_for` meets its contract: the size is the base doubled n times, for an n that the invariant holds, and no smaller doubling
 -- is enough. Assumes nothing.
 use mathlib.Core.Path.{_≡_, sym, _∙_, ap₂, subst}
-use Prim.Native.Nat.{ℕ, suc, _+_, _-_, _*_, _^_, _≤_, _<_}
+use Prim.Native.Nat.{ℕ, suc, _-_, _*_, _^_, _≤_, _<_, _+_}
 use native.Mathlib.Nat.{mul-one, not-suc-le-zero}
 use native.Mathlib.Numerals.{add-one}
 use native.Mathlib.Omega.{arith}
 use borrow.Author.Count.{below-more}
-use Rattle.model.proofs.Added.{size-is, twice-size}
-use Rattle.model.proofs.Adds.{few-doublings}
+use Rattle.model.proofs.table.Inserted.{size-is, twice-size}
+use Rattle.model.proofs.table.Inserts.{few-doublings}
 use Rattle.aux_map.proofs.size_for.Statement.{statement}
 use Rattle.aux_map.proofs.size_for.Tie as tie
 
@@ -20,18 +20,6 @@ abbrev μ-loop : tie.MeasureT-loop
 
 loop-holds : tie.Need-loop-holds Inv-loop μ-loop
 loop-holds c = (0, omega arith, sym (mul-one _), (λ m l. absurd (not-suc-le-zero l)), omega arith, omega arith)
-
-mul-loop : tie.Need-mul-loop Inv-loop μ-loop
-mul-loop c = omega arith
-
-mul-loop-2 : tie.Need-mul-loop-2 Inv-loop μ-loop
-mul-loop-2 c = omega arith
-
-add-size : tie.Need-add-size Inv-loop μ-loop
-add-size c = omega arith
-
-loop-less : tie.Need-loop-less Inv-loop μ-loop
-loop-less c = omega arith
 
 loop-again : tie.Need-loop-again Inv-loop μ-loop
 loop-again c =
@@ -57,4 +45,5 @@ returns c =
 pub size-for-spec : {M : Type 1} → statement M
 size-for-spec =
     tie.close
-    (tie.spec Inv-loop μ-loop loop-holds mul-loop mul-loop-2 add-size loop-less loop-again returns)
+    (tie.spec Inv-loop μ-loop loop-holds (λ mul-loop. omega arith) (λ mul-loop-2. omega arith) (λ add-size. omega arith) (λ loop-less. omega arith)
+    loop-again returns)

@@ -5,9 +5,6 @@ use Rattle.model.specs.Table.{tableSize}
 use Rattle.aux_map.proofs.table_size.Statement.{statement}
 use Rattle.aux_map.proofs.table_size.Tie as tie
 
-size-for-requires : tie.Need-size-for-requires
-size-for-requires c κs = search needs
-
 returns : tie.Need-returns
 unfolding tableSize
 returns c = rw (eq-eqb _ 0 (c .if1 .taken))
@@ -17,4 +14,6 @@ unfolding tableSize
 returns-2 c = rw (ne-eqb _ 0 (c .before .if1 .left)) (c .size-for .ensures)
 
 pub table-size-spec : {M : Type 1} → statement M
-table-size-spec = tie.close (tie.spec size-for-requires returns returns-2)
+table-size-spec =
+    tie.close
+    (tie.spec (λ size-for-requires κs. search needs) returns returns-2)

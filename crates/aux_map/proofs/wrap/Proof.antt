@@ -15,4 +15,6 @@ returns c =
     ap (λ (n : ℕ). bitAnd (c .args .x) (n - 1)) (c .pre .power) ∙ and-mask (c .args .x) (c .pre .lg) ∙ ap (λ (n : ℕ). c .args .x % n) (sym (c .pre .power))
 
 pub wrap-spec : {M : Type 1} → statement M
-wrap-spec = tie.close (tie.spec sub-result returns)
+wrap-spec =
+    tie.close
+    (tie.spec sub-result returns)

@@ -15,27 +15,12 @@ abbrev μ-loop : tie.MeasureT-loop
 loop-holds : tie.Need-loop-holds Inv-loop μ-loop
 loop-holds c = turn-none _ _ _ _ (c .before .before .pre)
 
-mul-w : tie.Need-mul-w Inv-loop μ-loop
-mul-w c = omega arith
-
-slice-read-w : tie.Need-slice-read-w Inv-loop μ-loop
-slice-read-w c = omega arith
-
 insert-requires : tie.Need-insert-requires Inv-loop μ-loop
 insert-requires c κs =
     let i = c .before .before .before in
     let l = i .before in
     let ok = l .before .before .before .pre in
     insertable _ _ _ _ (ok .based) (ok .words) (ok .fits) (spared-sum _ _ _ _ ok) _ _ _ _ _ (l .loop .inv) (i .loop-test .taken)
-
-add-count : tie.Need-add-count Inv-loop μ-loop
-add-count c = omega arith
-
-add-j : tie.Need-add-j Inv-loop μ-loop
-add-j c = omega arith
-
-loop-less : tie.Need-loop-less Inv-loop μ-loop
-loop-less c = omega arith
 
 loop-again : tie.Need-loop-again Inv-loop μ-loop
 loop-again c =
@@ -60,17 +45,5 @@ returns c = all _ _ _ _ (c .before .before .before .before .pre) _ _ _ _ _ (c .b
 pub build-spec : {M : Type 1} → statement M
 build-spec =
     tie.close
-    (tie.spec
-    Inv-loop
-    μ-loop
-    loop-holds
-    mul-w
-    slice-read-w
-    insert-requires
-    add-count
-    add-j
-    loop-less
-    loop-again
-    same-length
-    same-length-2
-    returns)
+    (tie.spec Inv-loop μ-loop loop-holds (λ mul-w. omega arith) (λ slice-read-w. omega arith) insert-requires (λ add-count. omega arith)
+    (λ add-j. omega arith) (λ loop-less. omega arith) loop-again same-length same-length-2 returns)

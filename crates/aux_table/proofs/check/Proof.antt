@@ -6,14 +6,8 @@ use borrow.Author.Needs.{needs}
 use Rattle.aux_table.proofs.check.Statement.{statement}
 use Rattle.aux_table.proofs.check.Tie as tie
 
-cast-if1 : tie.Need-cast-if1
-cast-if1 c = search needs
-
 returns : tie.Need-returns
 returns c = checking.too-many _ _ _ (c .if1 .taken)
-
-table-size-requires : tie.Need-table-size-requires
-table-size-requires c κs = search needs
 
 returns-2 : tie.Need-returns-2
 returns-2 c =
@@ -26,30 +20,12 @@ slice-aggregate-count-used c =
     let z = f .before in
     sym (checking.part _ _ _ (z .before .before .before .pre) (z .before .if1 .left) _ (z .table-size .ensures) (f .if2 .left))
 
-count-used-requires : tie.Need-count-used-requires
-count-used-requires c κs = search needs
-
 returns-3 : tie.Need-returns-3
 returns-3 c =
     let n = c .before in
     let f = n .before .before in
     let z = f .before in
     checking.miscounted _ _ _ (z .before .before .before .pre) (z .before .if1 .left) _ (z .table-size .ensures) (f .if2 .left) _ (n .count-used .ensures) (c .if3 .taken)
-
-mul-count-used : tie.Need-mul-count-used
-mul-count-used c = search needs
-
-sub-count-used : tie.Need-sub-count-used
-sub-count-used c = search needs
-
-part-count-used-start : tie.Need-part-count-used-start
-part-count-used-start c = search needs
-
-part-count-used-end : tie.Need-part-count-used-end
-part-count-used-end c = search needs
-
-count-used-requires-2 : tie.Need-count-used-requires-2
-count-used-requires-2 c κs = search needs
 
 returns-4 : tie.Need-returns-4
 returns-4 c =
@@ -89,20 +65,7 @@ returns-5 c =
 pub check-spec : {M : Type 1} → statement M
 check-spec =
     tie.close
-    (tie.spec
-    cast-if1
-    returns
-    table-size-requires
-    returns-2
-    slice-aggregate-count-used
-    count-used-requires
-    returns-3
-    mul-count-used
-    sub-count-used
-    part-count-used-start
-    part-count-used-end
-    count-used-requires-2
-    returns-4
-    slice-aggregate-in-order
-    in-order-requires
-    returns-5)
+    (tie.spec (λ cast-if1. search needs) returns (λ table-size-requires κs. search needs) returns-2 slice-aggregate-count-used
+    (λ count-used-requires κs. search needs) returns-3 (λ mul-count-used. search needs) (λ sub-count-used. search needs)
+    (λ part-count-used-start. search needs) (λ part-count-used-end. search needs) (λ count-used-requires-2 κs. search needs) returns-4
+    slice-aggregate-in-order in-order-requires returns-5)

@@ -6,7 +6,7 @@ use native.Mathlib.Omega.{arith}
 use lib.ListN.{length, take}
 use lib.Seq.{take-length}
 use Rattle.model.specs.Table.{used}
-use Rattle.model.proofs.Refill.{used-skip, used-step}
+use Rattle.model.proofs.table.Refill.{used-skip, used-step}
 use Rattle.aux_table.proofs.count_used.Statement.{statement}
 use Rattle.aux_table.proofs.count_used.Tie as tie
 
@@ -19,21 +19,6 @@ abbrev μ-loop : tie.MeasureT-loop
 loop-holds : tie.Need-loop-holds Inv-loop μ-loop
 unfolding used
 loop-holds c = (omega arith, omega arith, refl)
-
-mul-if1 : tie.Need-mul-if1 Inv-loop μ-loop
-mul-if1 c = omega arith
-
-shared-slice-read-if1 : tie.Need-shared-slice-read-if1 Inv-loop μ-loop
-shared-slice-read-if1 c = omega arith
-
-add-n : tie.Need-add-n Inv-loop μ-loop
-add-n c = omega arith
-
-add-i : tie.Need-add-i Inv-loop μ-loop
-add-i c = omega arith
-
-loop-less : tie.Need-loop-less Inv-loop μ-loop
-loop-less c = omega arith
 
 loop-again : tie.Need-loop-again Inv-loop μ-loop
 loop-again c =
@@ -55,14 +40,5 @@ returns c =
 pub count-used-spec : {M : Type 1} → statement M
 count-used-spec =
     tie.close
-    (tie.spec
-    Inv-loop
-    μ-loop
-    loop-holds
-    mul-if1
-    shared-slice-read-if1
-    add-n
-    add-i
-    loop-less
-    loop-again
-    returns)
+    (tie.spec Inv-loop μ-loop loop-holds (λ mul-if1. omega arith) (λ shared-slice-read-if1. omega arith) (λ add-n. omega arith) (λ add-i. omega arith)
+    (λ loop-less. omega arith) loop-again returns)

@@ -1,13 +1,14 @@
 -- `aux_table::in_order` meets its contract: each word passed is where its search ends. Assumes nothing.
-use mathlib.Core.Path.{_≡_, refl, sym, _∙_}
+use mathlib.Core.Path.{_≡_, refl, sym, ap, _∙_}
 use mathlib.Core.Logic.{⊎-elim}
 use Prim.Native.Nat.{ℕ, _-_, _≤_, _<_}
 use native.Mathlib.Omega.{arith}
+use borrow.Author.Needs.{needs}
 use borrow.Author.Count.{below-more, below-none}
 use lib.ListN.{length, getD}
 use Rattle.model.specs.Coupon.{slot}
 use Rattle.model.specs.Table.{Reached, place}
-use Rattle.model.proofs.FirstLaws.{true-not-false}
+use Rattle.model.proofs.table.FirstLaws.{true-not-false}
 use Rattle.aux_table.proofs.in_order.Statement.{statement}
 use Rattle.aux_table.proofs.in_order.Tie as tie
 
@@ -20,32 +21,23 @@ abbrev μ-loop : tie.MeasureT-loop
 loop-holds : tie.Need-loop-holds Inv-loop μ-loop
 loop-holds c = (omega arith, below-none _)
 
-mul-w : tie.Need-mul-w Inv-loop μ-loop
-mul-w c = omega arith
-
-shared-slice-read-w : tie.Need-shared-slice-read-w Inv-loop μ-loop
-shared-slice-read-w c = omega arith
-
 probe-requires : tie.Need-probe-requires Inv-loop μ-loop
-probe-requires c κs = c .before .before .before .before .before .pre .room (omega arith)
+probe-requires c κs = c .before .before .before .before .before .before .pre .room (omega arith)
 
 returns : tie.Need-returns Inv-loop μ-loop
 unfolding Reached
 returns c =
-    let l = c .before .before .before .before .before in
-    let h : l .loop .i < length (l .before .before .args .table .now) = omega arith in
-    ((λ e. absurd (true-not-false e refl)), λ e good. c .if2 .taken (c .before .probe .ensures ∙ good (l .loop .i) h (c .before .before .if1 .taken)))
-
-add-i : tie.Need-add-i Inv-loop μ-loop
-add-i c = omega arith
-
-loop-less : tie.Need-loop-less Inv-loop μ-loop
-loop-less c = omega arith
+    let p = c .before in
+    let l = p .before .before .before .before .before in
+    let t = l .before .before .args .table .now in
+    let h : l .loop .i < length t = omega arith in
+    ((λ e. absurd (true-not-false e refl)), λ e good. c .if2 .taken (p .probe .ensures ∙ ap (place t) (p .before .slot .ensures) ∙ good (l .loop .i) h (p .before .before .if1 .taken)))
 
 loop-again : tie.Need-loop-again Inv-loop μ-loop
 loop-again c =
     let l = c .before .before .before in
-    (omega arith, below-more _ (l .loop .i) (l .loop .inv .1) (⊎-elim (λ w n. sym (w .1 .ensures) ∙ w .2 .left) (λ w n. absurd (n (w .left))) (c .if1 .came)))
+    let t = l .before .before .args .table .now in
+    (omega arith, below-more _ (l .loop .i) (l .loop .inv .1) (⊎-elim (λ w n. sym (w .2 .ensures ∙ ap (place t) (w .1 .ensures)) ∙ w .3 .left) (λ w n. absurd (n (w .left))) (c .if1 .came)))
 
 returns-2 : tie.Need-returns-2 Inv-loop μ-loop
 unfolding Reached
@@ -56,15 +48,5 @@ returns-2 c =
 pub in-order-spec : {M : Type 1} → statement M
 in-order-spec =
     tie.close
-    (tie.spec
-    Inv-loop
-    μ-loop
-    loop-holds
-    mul-w
-    shared-slice-read-w
-    probe-requires
-    returns
-    add-i
-    loop-less
-    loop-again
-    returns-2)
+    (tie.spec Inv-loop μ-loop loop-holds (λ mul-w. omega arith) (λ shared-slice-read-w. omega arith) (λ slot-requires κs. search needs) probe-requires
+    returns (λ add-i. omega arith) (λ loop-less. omega arith) loop-again returns-2)

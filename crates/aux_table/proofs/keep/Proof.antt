@@ -2,6 +2,7 @@
 use mathlib.Core.Path.{_≡_, refl, _∙_, ap}
 use Prim.Native.Nat.{ℕ, _+_, _-_, _≤_}
 use native.Mathlib.Omega.{arith}
+use borrow.Author.Needs.{needs}
 use lib.ListN.{length, getD, drop, length-set}
 use Rattle.model.specs.Table.{keeps}
 use Rattle.aux_table.proofs.Keeping.{keeps-none, keep-passed, keep-taken}
@@ -16,79 +17,43 @@ abbrev μ-loop : tie.MeasureT-loop
 μ-loop table into₀ limit top₀ i₀ into top i = i
 
 loop-holds : tie.Need-loop-holds Inv-loop μ-loop
-loop-holds c = (omega arith, omega arith, refl, omega arith, keeps-none (c .args .limit) (c .args .table .now) (c .args .into .now))
-
-sub-i : tie.Need-sub-i Inv-loop μ-loop
-sub-i c = omega arith
-
-mul-w : tie.Need-mul-w Inv-loop μ-loop
-mul-w c = omega arith
-
-shared-slice-read-w : tie.Need-shared-slice-read-w Inv-loop μ-loop
-shared-slice-read-w c = omega arith
-
-sub-top : tie.Need-sub-top Inv-loop μ-loop
-sub-top c = omega arith
-
-mul-into : tie.Need-mul-into Inv-loop μ-loop
-mul-into c = omega arith
-
-slice-write-into : tie.Need-slice-write-into Inv-loop μ-loop
-slice-write-into c = omega arith
-
-loop-less : tie.Need-loop-less Inv-loop μ-loop
-loop-less c = omega arith
+loop-holds c = let s = c .before .before in (omega arith, omega arith, refl, omega arith, keeps-none (s .args .limit) (s .args .table .now) (s .args .into .now))
 
 loop-again : tie.Need-loop-again Inv-loop μ-loop
 loop-again c =
-    let l = c .before .before .before in
-    let t = l .before .args .table .now in
+    let l = c .before .before .before .before in
+    let s = l .before .before .before in
+    let t = s .args .table .now in
     let same = length-set (l .loop .into) (l .loop .top - 1) (getD t (l .loop .i - 1) 0) in (
       omega arith,
       omega (arith, same),
       omega (arith, same),
       omega (arith, same),
-      keep-taken (l .before .args .limit) t (l .loop .into) (l .loop .i) (l .loop .top) (omega arith) (l .loop .inv .0) (l .loop .inv .4) (c .before .shared-slice-known .given _ .fits) (c .if1 .taken) (omega arith) (l .loop .inv .1),
+      keep-taken (s .args .limit) t (l .loop .into) (l .loop .i) (l .loop .top) (omega arith) (l .loop .inv .0) (l .loop .inv .4) _ (c .before .value .ensures) (c .if1 .taken) (omega arith) (l .loop .inv .1),
     )
-
-loop-less-2 : tie.Need-loop-less-2 Inv-loop μ-loop
-loop-less-2 c = omega arith
 
 loop-again-2 : tie.Need-loop-again-2 Inv-loop μ-loop
 loop-again-2 c =
-    let l = c .before .before .before in (
+    let l = c .before .before .before .before in
+    let s = l .before .before .before in (
       omega arith,
       l .loop .inv .1,
       l .loop .inv .2,
       omega arith,
-      keep-passed (l .before .args .limit) (l .before .args .table .now) (l .loop .into) (l .loop .i) (l .loop .top) (omega arith) (l .loop .inv .0) (l .loop .inv .4) (c .before .shared-slice-known .given _ .fits) (c .if1 .left),
+      keep-passed (s .args .limit) (s .args .table .now) (l .loop .into) (l .loop .i) (l .loop .top) (omega arith) (l .loop .inv .0) (l .loop .inv .4) _ (c .before .value .ensures) (c .if1 .left),
     )
-
-same-length : tie.Need-same-length Inv-loop μ-loop
-same-length c = omega arith
 
 returns : tie.Need-returns Inv-loop μ-loop
 returns c =
     let l = c .before in
+    let s = l .before .before .before in
     let e : l .loop .i ≡ 0 = omega arith in
-    record { within = l .loop .inv .1; words = l .loop .inv .4 ∙ ap (λ (n : ℕ). keeps (l .before .args .limit) (drop n (l .before .args .table .now))) e }
+    record { within = l .loop .inv .1; words = l .loop .inv .4 ∙ ap (λ (n : ℕ). keeps (s .args .limit) (drop n (s .args .table .now))) e }
 
 pub keep-spec : {M : Type 1} → statement M
 keep-spec =
     tie.close
-    (tie.spec
-    Inv-loop
-    μ-loop
-    loop-holds
-    sub-i
-    mul-w
-    shared-slice-read-w
-    sub-top
-    mul-into
-    slice-write-into
-    loop-less
-    loop-again
-    loop-less-2
-    loop-again-2
-    same-length
+    (tie.spec Inv-loop μ-loop loop-holds (λ sub-i. omega arith) (λ mul-w. omega arith) (λ shared-slice-read-w. omega arith)
+    (λ value-requires κs. search needs) (λ cast-if1. search needs) (λ sub-top. omega arith) (λ mul-into. omega arith)
+    (λ slice-write-into. omega arith) (λ loop-less. omega arith) loop-again (λ loop-less-2. omega arith) loop-again-2 (λ same-length. omega arith)
     returns)

@@ -5,38 +5,20 @@ use borrow.Author.Needs.{needs}
 use Rattle.aux_table.proofs.rebuild.Statement.{statement}
 use Rattle.aux_table.proofs.rebuild.Tie as tie
 
-slice-reshare-prefix-keep : tie.Need-slice-reshare-prefix-keep
-slice-reshare-prefix-keep c = search needs
-
 slice-aggregate-keep : tie.Need-slice-aggregate-keep
 slice-aggregate-keep c = sym (rebuilding.part _ _ _ _ _ (c .before .before .before .pre))
 
 keep-requires : tie.Need-keep-requires
 keep-requires c κs = rebuilding.enough _ _ _ _ _ (c .before .before .before .before .pre)
 
-sub-left : tie.Need-sub-left
-sub-left c = search needs
-
-slice-relend-prefix-clear : tie.Need-slice-relend-prefix-clear
-slice-relend-prefix-clear c = search needs
-
 slice-aggregate-clear : tie.Need-slice-aggregate-clear
 slice-aggregate-clear c = sym (rebuilding.part _ _ _ _ _ (c .before .before .before .before .before .before .before .before .pre))
-
-clear-requires : tie.Need-clear-requires
-clear-requires c κs = search needs
 
 build-requires : tie.Need-build-requires
 build-requires c κs =
     let z = c .before .before .before .before in
     let k = z .before .before .before .before in
     rebuilding.buildable _ _ _ _ _ (k .before .before .before .before .before .pre) _ (z .clear .ensures) _ _ (k .keep .kept .1 .0) (k .keep .ensures)
-
-same-length : tie.Need-same-length
-same-length c = search needs
-
-same-length-2 : tie.Need-same-length-2
-same-length-2 c = search needs
 
 returns : tie.Need-returns
 returns c =
@@ -48,15 +30,6 @@ returns c =
 pub rebuild-spec : {M : Type 1} → statement M
 rebuild-spec =
     tie.close
-    (tie.spec
-    slice-reshare-prefix-keep
-    slice-aggregate-keep
-    keep-requires
-    sub-left
-    slice-relend-prefix-clear
-    slice-aggregate-clear
-    clear-requires
-    build-requires
-    same-length
-    same-length-2
-    returns)
+    (tie.spec (λ slice-reshare-prefix-keep. search needs) slice-aggregate-keep keep-requires (λ sub-left. search needs)
+    (λ slice-relend-prefix-clear. search needs) slice-aggregate-clear (λ clear-requires κs. search needs) build-requires (λ same-length. search needs)
+    (λ same-length-2. search needs) returns)

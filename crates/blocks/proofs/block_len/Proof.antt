@@ -10,4 +10,6 @@ returns-2 : tie.Need-returns-2
 returns-2 c = λ p h. long-part p (c .if1 .left)
 
 pub block-len-spec : {M : Type 1} → statement M
-block-len-spec = tie.close (tie.spec returns returns-2)
+block-len-spec =
+    tie.close
+    (tie.spec returns returns-2)

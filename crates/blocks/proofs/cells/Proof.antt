@@ -8,31 +8,13 @@ use Rattle.blocks.proofs.cells.Tie as tie
 add-end : tie.Need-add-end
 add-end c = omega (arith, few (c .before .before .before .before .pre), c .before .before .before .before .pre .inside)
 
-sub-copy : tie.Need-sub-copy
-sub-copy c = search needs
-
-part-copy-start : tie.Need-part-copy-start
-part-copy-start c = search needs
-
 part-copy-end : tie.Need-part-copy-end
 part-copy-end c = fits-8 (c .before .before .before .before .pre) (c .if1 .taken)
-
-copy-requires : tie.Need-copy-requires
-copy-requires c κs = search needs
-
-same-length : tie.Need-same-length
-same-length c = search needs
 
 returns : tie.Need-returns
 returns c =
     let start = c .before .before .before .before .before .before .before .before .before in
     cells-8 _ _ (start .pre) (λ i. c .before .before .before .before .before .before .before .before .shared-slice-known .given i .fits) (c .before .before .before .before .before .if1 .taken) (c .before .before .copy .ensures)
-
-mul-at : tie.Need-mul-at
-mul-at c = search needs
-
-mul-end : tie.Need-mul-end
-mul-end c = search needs
 
 add-end-2 : tie.Need-add-end-2
 add-end-2 c = omega (arith, few (c .before .before .before .before .before .before .pre), c .before .before .before .before .before .before .pre .inside)
@@ -40,43 +22,19 @@ add-end-2 c = omega (arith, few (c .before .before .before .before .before .befo
 add-end-3 : tie.Need-add-end-3
 add-end-3 c = omega (arith, few (c .before .before .before .before .before .before .pre), c .before .before .before .before .before .before .pre .inside)
 
-sub-unpack : tie.Need-sub-unpack
-sub-unpack c = search needs
-
-part-unpack-start : tie.Need-part-unpack-start
-part-unpack-start c = search needs
-
 part-unpack-end : tie.Need-part-unpack-end
 part-unpack-end c = fits-6 (c .before .before .before .before .before .before .pre) (c .if2 .taken)
 
 unpack-requires : tie.Need-unpack-requires
 unpack-requires c κs = part-6 _ (c .before .before .before .before .before .before .before .before .pre) (c .before .before .if2 .taken)
 
-same-length-2 : tie.Need-same-length-2
-same-length-2 c = search needs
-
 returns-2 : tie.Need-returns-2
 returns-2 c =
     let kind = c .before .before .before .before .before in
     cells-6 _ _ (kind .before .before .before .before .before .before .pre) (λ i. kind .before .before .before .before .before .shared-slice-known .given i .fits) (kind .if2 .taken) (c .before .before .unpack .ensures)
 
-add-end-4 : tie.Need-add-end-4
-add-end-4 c = search needs
-
-sub-unpack-2 : tie.Need-sub-unpack-2
-sub-unpack-2 c = search needs
-
-part-unpack-start-2 : tie.Need-part-unpack-start-2
-part-unpack-start-2 c = search needs
-
 part-unpack-end-2 : tie.Need-part-unpack-end-2
 part-unpack-end-2 c = fits-4 (c .before .before .before .before .before .before .pre) (is-4 (c .before .before .before .before .before .before .pre) (c .before .before .if1 .left) (c .if2 .left))
-
-unpack-requires-2 : tie.Need-unpack-requires-2
-unpack-requires-2 c κs = search needs
-
-same-length-3 : tie.Need-same-length-3
-same-length-3 c = search needs
 
 returns-3 : tie.Need-returns-3
 returns-3 c =
@@ -87,28 +45,8 @@ returns-3 c =
 pub cells-spec : {M : Type 1} → statement M
 cells-spec =
     tie.close
-    (tie.spec
-    add-end
-    sub-copy
-    part-copy-start
-    part-copy-end
-    copy-requires
-    same-length
-    returns
-    mul-at
-    mul-end
-    add-end-2
-    add-end-3
-    sub-unpack
-    part-unpack-start
-    part-unpack-end
-    unpack-requires
-    same-length-2
-    returns-2
-    add-end-4
-    sub-unpack-2
-    part-unpack-start-2
-    part-unpack-end-2
-    unpack-requires-2
-    same-length-3
-    returns-3)
+    (tie.spec add-end (λ sub-copy. search needs) (λ part-copy-start. search needs) part-copy-end (λ copy-requires κs. search needs)
+    (λ same-length. search needs) returns (λ mul-at. search needs) (λ mul-end. search needs) add-end-2 add-end-3 (λ sub-unpack. search needs)
+    (λ part-unpack-start. search needs) part-unpack-end unpack-requires (λ same-length-2. search needs) returns-2 (λ add-end-4. search needs)
+    (λ sub-unpack-2. search needs) (λ part-unpack-start-2. search needs) part-unpack-end-2 (λ unpack-requires-2 κs. search needs)
+    (λ same-length-3. search needs) returns-3)

@@ -6,8 +6,8 @@ use native.Mathlib.Omega.{arith}
 use lib.ListN.{length, getD, length-set, length-map}
 use lib.Seq.{ext-getD, getD-set-other}
 use borrow.Author.Needs.{needs}
-use Rattle.model.proofs.Packing.{Filled, filled-none, filled-more}
-use Rattle.model.proofs.Taken.{map-at}
+use Rattle.model.proofs.packing.Packing.{Filled, filled-none, filled-more}
+use Rattle.model.proofs.image.Taken.{map-at}
 use Rattle.blocks.proofs.lift.Statement.{statement}
 use Rattle.blocks.proofs.lift.Tie as tie
 
@@ -21,22 +21,10 @@ abbrev μ-loop : tie.MeasureT-loop
 loop-holds : tie.Need-loop-holds Inv-loop μ-loop
 loop-holds c = (refl, filled-none _ (c .args .out .now), λ i h. refl)
 
-slice-read-out : tie.Need-slice-read-out Inv-loop μ-loop
-slice-read-out c = search needs
-
 add-out : tie.Need-add-out Inv-loop μ-loop
 add-out c =
     let l = c .before .before in
     omega (arith, l .before .pre .fits (l .loop .at) (omega (arith, l .loop .inv .0)), l .loop .inv .2 (l .loop .at) (omega arith))
-
-slice-write-out : tie.Need-slice-write-out Inv-loop μ-loop
-slice-write-out c = search needs
-
-add-at : tie.Need-add-at Inv-loop μ-loop
-add-at c = search needs
-
-loop-less : tie.Need-loop-less Inv-loop μ-loop
-loop-less c = search needs
 
 loop-again : tie.Need-loop-again Inv-loop μ-loop
 loop-again c =
@@ -46,9 +34,6 @@ loop-again c =
       filled-more _ (l .loop .out) (l .loop .at) _ _ refl (l .loop .inv .1) (c .before .loop-test .taken) (ap (_+_ by) (l .loop .inv .2 (l .loop .at) (omega arith))),
       λ i k. getD-set-other (l .loop .out) (l .loop .at) i _ 0 (λ e. omega arith) ∙ l .loop .inv .2 i (omega arith),
     )
-
-same-length : tie.Need-same-length Inv-loop μ-loop
-same-length c = search needs
 
 returns : tie.Need-returns Inv-loop μ-loop
 returns c =
@@ -61,15 +46,5 @@ returns c =
 pub lift-spec : {M : Type 1} → statement M
 lift-spec =
     tie.close
-    (tie.spec
-    Inv-loop
-    μ-loop
-    loop-holds
-    slice-read-out
-    add-out
-    slice-write-out
-    add-at
-    loop-less
-    loop-again
-    same-length
-    returns)
+    (tie.spec Inv-loop μ-loop loop-holds (λ slice-read-out. search needs) add-out (λ slice-write-out. search needs) (λ add-at. search needs)
+    (λ loop-less. search needs) loop-again (λ same-length. search needs) returns)

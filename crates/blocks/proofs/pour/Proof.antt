@@ -12,9 +12,6 @@ use borrow.Author.Needs.{needs}
 long : {s : Sketch} {n t m : ℕ} (p : Pourable s n t) → ((q : Power t) → 4 ≤ q .lg → Long (q .lg) m) → Long (p .target .lg) m
 long p f = f (p .target) (p .least)
 
-block-len-requires : tie.Need-block-len-requires
-block-len-requires c κs = search needs
-
 array-borrow-prefix-some : tie.Need-array-borrow-prefix-some
 array-borrow-prefix-some c = long (c .before .before .before .pre) (c .block-len .ensures) .small
 
@@ -24,19 +21,8 @@ slice-aggregate-pour-by c = buffer-long (long (c .before .before .before .before
 pour-by-requires : tie.Need-pour-by-requires
 pour-by-requires c κs = let all = long (c .before .before .before .before .before .pre) (c .before .before .block-len .ensures) in rw (← buffer-long all) (record { pourable = c .before .before .before .before .before .pre; long = all })
 
-same-length : tie.Need-same-length
-same-length c = search needs
-
-returns : tie.Need-returns
-returns c = search needs
-
 pub pour-spec : {M : Type 1} → statement M
 pour-spec =
     tie.close
-    (tie.spec
-    block-len-requires
-    array-borrow-prefix-some
-    slice-aggregate-pour-by
-    pour-by-requires
-    same-length
-    returns)
+    (tie.spec (λ block-len-requires κs. search needs) array-borrow-prefix-some slice-aggregate-pour-by pour-by-requires (λ same-length. search needs)
+    (λ returns. search needs))

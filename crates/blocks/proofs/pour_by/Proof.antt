@@ -7,7 +7,7 @@ use lib.ListN.{length, drop}
 use denote.Ref.{now}
 use Rattle.model.specs.Registers.{poured, joined}
 use Rattle.model.specs.Sketch.{floors}
-use Rattle.array8.proofs.Turns.{poured-end}
+use Rattle.model.proofs.registers.Turns.{poured-end}
 use Rattle.blocks.proofs.Levels.{floors-long, Turn, turn-few, turn-some, turn-floor, out-long, out-start, pour-turn, pour-block, pour-next}
 use borrow.Author.Needs.{needs}
 use Rattle.blocks.proofs.pour_by.Statement.{statement}
@@ -38,8 +38,8 @@ merge-block-requires c κs =
     let test = c .before .before .before .before .before .before in
     pour-block (test .before .before .before .before .before .before .pre) (turn test) _ (c .before .before .before .before .floors .ensures) (test .before .loop .inv .1)
 
-add-from : tie.Need-add-from Inv-loop μ-loop
-add-from c = omega (arith, turn-few (turn (c .before .before .before .before .before .before .before .before .before)), out-long (turn (c .before .before .before .before .before .before .before .before .before)) _ (c .before .before .before .before .before .before .before .floors .ensures))
+insert-from : tie.Need-add-from Inv-loop μ-loop
+insert-from c = omega (arith, turn-few (turn (c .before .before .before .before .before .before .before .before .before)), out-long (turn (c .before .before .before .before .before .before .before .before .before)) _ (c .before .before .before .before .before .before .before .floors .ensures))
 
 loop-less : tie.Need-loop-less Inv-loop μ-loop
 loop-less c = omega (arith, turn-some (turn (c .before .before .before .before .before .before .before .before .before)), out-long (turn (c .before .before .before .before .before .before .before .before .before)) _ (c .before .before .before .before .before .before .before .floors .ensures))
@@ -55,12 +55,6 @@ loop-again c =
       pour-next (test .before .before .before .before .before .before .pre) (turn test) _ read (loop .target) _ _ (loop .inv .1) (c .before .before .merge-block .ensures) (loop .inv .3),
     )
 
-same-length : tie.Need-same-length Inv-loop μ-loop
-same-length c = search needs
-
-same-length-2 : tie.Need-same-length-2 Inv-loop μ-loop
-same-length-2 c = search needs
-
 returns : tie.Need-returns Inv-loop μ-loop
 returns c =
     let loop = c .before .loop in
@@ -71,16 +65,5 @@ returns c =
 pub pour-by-spec : {M : Type 1} → statement M
 pour-by-spec =
     tie.close
-    (tie.spec
-    Inv-loop
-    μ-loop
-    num-registers-requires
-    loop-holds
-    floors-requires
-    merge-block-requires
-    add-from
-    loop-less
-    loop-again
-    same-length
-    same-length-2
-    returns)
+    (tie.spec Inv-loop μ-loop num-registers-requires loop-holds floors-requires merge-block-requires insert-from loop-less loop-again
+    (λ same-length. search needs) (λ same-length-2. search needs) returns)

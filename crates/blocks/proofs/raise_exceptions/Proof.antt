@@ -16,12 +16,6 @@ table-len-requires c κs = c .before .before .before .before .pre .tabulated (c 
 slice-aggregate-raise-words : tie.Need-slice-aggregate-raise-words
 slice-aggregate-raise-words c = sym (length-take-le _ _ (rw (c .before .before .table-len .ensures) (c .before .before .before .before .before .before .before .pre .table (c .before .before .before .if1 .left))))
 
-raise-words-requires : tie.Need-raise-words-requires
-raise-words-requires c κs = search needs
-
-same-length : tie.Need-same-length
-same-length c = search needs
-
 returns-2 : tie.Need-returns-2
 returns-2 c =
     let a = c .before .before .before .before .before .before .before .before .before .before .args in
@@ -30,10 +24,4 @@ returns-2 c =
 pub raise-exceptions-spec : {M : Type 1} → statement M
 raise-exceptions-spec =
     tie.close
-    (tie.spec
-    returns
-    table-len-requires
-    slice-aggregate-raise-words
-    raise-words-requires
-    same-length
-    returns-2)
+    (tie.spec returns table-len-requires slice-aggregate-raise-words (λ raise-words-requires κs. search needs) (λ same-length. search needs) returns-2)

@@ -4,7 +4,7 @@ use Prim.Native.Nat.{_+_, _-_}
 use native.Mathlib.Omega.{arith}
 use lib.ListN.{length, getD, length-set}
 use Rattle.model.specs.Sketch.{registers}
-use Rattle.model.proofs.Packing.{Filled, filled-none, filled-more}
+use Rattle.model.proofs.packing.Packing.{Filled, filled-none, filled-more}
 use Rattle.blocks.proofs.Slots.{few, block-filled}
 use borrow.Author.Needs.{needs}
 use Rattle.blocks.proofs.resolve.Statement.{statement}
@@ -28,12 +28,6 @@ cast-get c = omega (arith, c .before .loop .inv .0, few (c .before .before .befo
 get-requires : tie.Need-get-requires Inv-loop μ-loop
 get-requires c κs = record { four = c .before .before .before .before .before .pre .four; good = c .before .before .before .before .before .pre .block .good; inside = omega (arith, c .before .loop .inv .0, c .before .before .before .before .before .pre .block .within .inside) }
 
-slice-write-out : tie.Need-slice-write-out Inv-loop μ-loop
-slice-write-out c = search needs
-
-add-i : tie.Need-add-i Inv-loop μ-loop
-add-i c = search needs
-
 loop-less : tie.Need-loop-less Inv-loop μ-loop
 loop-less c = omega (arith, c .before .before .loop .inv .0)
 
@@ -41,9 +35,6 @@ loop-again : tie.Need-loop-again Inv-loop μ-loop
 loop-again c =
     let loop = c .before .before .loop in
     (simp length-set (loop .inv .0), filled-more _ (loop .out) (loop .i) _ _ refl (loop .inv .1) (c .before .loop-test .taken) (c .get .ensures))
-
-same-length : tie.Need-same-length Inv-loop μ-loop
-same-length c = search needs
 
 returns : tie.Need-returns Inv-loop μ-loop
 returns c =
@@ -53,16 +44,5 @@ returns c =
 pub resolve-spec : {M : Type 1} → statement M
 resolve-spec =
     tie.close
-    (tie.spec
-    Inv-loop
-    μ-loop
-    loop-holds
-    add-get
-    cast-get
-    get-requires
-    slice-write-out
-    add-i
-    loop-less
-    loop-again
-    same-length
-    returns)
+    (tie.spec Inv-loop μ-loop loop-holds add-get cast-get get-requires (λ slice-write-out. search needs) (λ add-i. search needs) loop-less loop-again
+    (λ same-length. search needs) returns)

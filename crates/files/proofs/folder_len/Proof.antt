@@ -23,15 +23,6 @@ abbrev μ-loop : tie.MeasureT-loop
 loop-holds : tie.Need-loop-holds Inv-loop μ-loop
 loop-holds c = (search needs, λ k l h e. omega arith)
 
-sub-before : tie.Need-sub-before Inv-loop μ-loop
-sub-before c = search needs
-
-shared-slice-read-if1 : tie.Need-shared-slice-read-if1 Inv-loop μ-loop
-shared-slice-read-if1 c = search needs
-
-loop-less : tie.Need-loop-less Inv-loop μ-loop
-loop-less c = search needs
-
 loop-again : tie.Need-loop-again Inv-loop μ-loop
 loop-again c = (search needs, from-less _ _ (c .before .before .before .loop .inv .1) (λ h. c .if1 .left))
 
@@ -44,13 +35,5 @@ returns-2 c = (counts _ _ (omega arith), ((λ h. c .if1 .taken), c .before .befo
 pub folder-len-spec : {M : Type 1} → statement M
 folder-len-spec =
     tie.close
-    (tie.spec
-    Inv-loop
-    μ-loop
-    loop-holds
-    sub-before
-    shared-slice-read-if1
-    loop-less
-    loop-again
-    returns
-    returns-2)
+    (tie.spec Inv-loop μ-loop loop-holds (λ sub-before. search needs) (λ shared-slice-read-if1. search needs) (λ loop-less. search needs) loop-again
+    returns returns-2)

@@ -12,4 +12,6 @@ returns-2 : tie.Need-returns-2
 returns-2 c = simp (le-leb 33 _ (c .if1 .left))
 
 pub is-graphic-spec : {M : Type 1} → statement M
-is-graphic-spec = tie.close (tie.spec returns returns-2)
+is-graphic-spec =
+    tie.close
+    (tie.spec returns returns-2)

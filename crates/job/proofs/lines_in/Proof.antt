@@ -2,9 +2,8 @@
 use mathlib.Core.Path.{_≡_, sym, _∙_}
 use Prim.Native.Nat.{suc, _+_, _-_, _≤_}
 use native.Mathlib.Omega.{arith}
-use lib.ListN.{length, drop}
+use lib.ListN.{length}
 use borrow.Author.Needs.{needs}
-use Rattle.job.specs.Job.{insIn, inLines}
 use Rattle.job.proofs.Walk.{left, bytes-left, line-room, one-more, bytes-more, ins-over, ins-full}
 use Rattle.job.proofs.lines_in.Statement.{statement}
 use Rattle.job.proofs.lines_in.Tie as tie
@@ -16,15 +15,6 @@ Inv-loop job at files₀ end₀ t6 files end =
 abbrev μ-loop : tie.MeasureT-loop
 μ-loop job at files₀ end₀ t6 files end = 64 - files
 
-loop-holds : tie.Need-loop-holds Inv-loop μ-loop
-loop-holds c = search needs
-
-slice-aggregate-path-in : tie.Need-slice-aggregate-path-in Inv-loop μ-loop
-slice-aggregate-path-in c = search needs
-
-path-in-requires : tie.Need-path-in-requires Inv-loop μ-loop
-path-in-requires c κs = search needs
-
 returns : tie.Need-returns Inv-loop μ-loop
 returns c =
     let h = ins-over (c .before .before .before .before .before .before .args .job .now) (64 - (c .before .before .before .before .loop .files)) (c .before .before .before .before .loop .end) (sym (c .if1 .taken) ∙ c .before .path-in .ensures) in
@@ -35,12 +25,6 @@ add-end c = omega (arith, line-room (c .before .before .before .before .before .
 
 add-end-2 : tie.Need-add-end-2 Inv-loop μ-loop
 add-end-2 c = omega (arith, line-room (c .before .before .before .before .before .before .args .job .now) (c .before .before .before .before .loop .end) _ (c .before .path-in .ensures) (c .if1 .left))
-
-add-files : tie.Need-add-files Inv-loop μ-loop
-add-files c = search needs
-
-loop-less : tie.Need-loop-less Inv-loop μ-loop
-loop-less c = search needs
 
 loop-again : tie.Need-loop-again Inv-loop μ-loop
 loop-again c =
@@ -58,16 +42,5 @@ returns-2 c =
 pub lines-in-spec : {M : Type 1} → statement M
 lines-in-spec =
     tie.close
-    (tie.spec
-    Inv-loop
-    μ-loop
-    loop-holds
-    slice-aggregate-path-in
-    path-in-requires
-    returns
-    add-end
-    add-end-2
-    add-files
-    loop-less
-    loop-again
-    returns-2)
+    (tie.spec Inv-loop μ-loop (λ loop-holds. search needs) (λ slice-aggregate-path-in. search needs) (λ path-in-requires κs. search needs) returns
+    add-end add-end-2 (λ add-files. search needs) (λ loop-less. search needs) loop-again returns-2)

@@ -9,4 +9,6 @@ unfolding placesOf
 returns c = refl
 
 pub no-job-spec : {M : Type 1} → statement M
-no-job-spec = tie.close (tie.spec returns)
+no-job-spec =
+    tie.close
+    (tie.spec returns)

@@ -12,4 +12,6 @@ returns-2 : tie.Need-returns-2
 returns-2 c = sym (size-long _ (c .before .pre .0) (c .before .pre .1) ∙ simp (le-ltb _ _ (c .if1 .left)))
 
 pub size-end-spec : {M : Type 1} → statement M
-size-end-spec = tie.close (tie.spec returns returns-2)
+size-end-spec =
+    tie.close
+    (tie.spec returns returns-2)

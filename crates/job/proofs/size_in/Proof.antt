@@ -1,6 +1,6 @@
 -- `job::size_in` meets its contract: no size before the one found is asked for. Assumes nothing.
 use mathlib.Core.Path.{_≡_, sym, _∙_}
-use mathlib.Core.Bool.{true, false}
+use mathlib.Core.Bool.{false}
 use Prim.Native.Nat.{ℕ, _+_, _-_, _≤_, _<_}
 use native.Mathlib.Nat.{not-suc-le-zero}
 use native.Mathlib.Omega.{arith}
@@ -21,23 +21,8 @@ abbrev μ-loop : tie.MeasureT-loop
 loop-holds : tie.Need-loop-holds Inv-loop μ-loop
 loop-holds c = (omega arith, λ m h. absurd (not-suc-le-zero h))
 
-add-asks-for : tie.Need-add-asks-for Inv-loop μ-loop
-add-asks-for c = search needs
-
-asks-for-requires : tie.Need-asks-for-requires Inv-loop μ-loop
-asks-for-requires c κs = search needs
-
-add-result : tie.Need-add-result Inv-loop μ-loop
-add-result c = search needs
-
 returns : tie.Need-returns Inv-loop μ-loop
 returns c = size-found (c .before .before .before .before .before .args .job .now) (c .before .before .before .loop .more) (c .before .before .loop-test .taken) (sym (c .before .asks-for .ensures) ∙ c .if1 .taken) (c .before .before .before .loop .inv .1)
-
-add-more : tie.Need-add-more Inv-loop μ-loop
-add-more c = search needs
-
-loop-less : tie.Need-loop-less Inv-loop μ-loop
-loop-less c = search needs
 
 loop-again : tie.Need-loop-again Inv-loop μ-loop
 loop-again c = (search needs, below-more _ _ (c .before .before .before .loop .inv .1) (sym (c .before .asks-for .ensures) ∙ c .if1 .left))
@@ -48,15 +33,5 @@ returns-2 c = size-missing (c .before .before .before .args .job .now) (λ m h. 
 pub size-in-spec : {M : Type 1} → statement M
 size-in-spec =
     tie.close
-    (tie.spec
-    Inv-loop
-    μ-loop
-    loop-holds
-    add-asks-for
-    asks-for-requires
-    add-result
-    returns
-    add-more
-    loop-less
-    loop-again
-    returns-2)
+    (tie.spec Inv-loop μ-loop loop-holds (λ add-asks-for. search needs) (λ asks-for-requires κs. search needs) (λ add-result. search needs) returns
+    (λ add-more. search needs) (λ loop-less. search needs) loop-again returns-2)

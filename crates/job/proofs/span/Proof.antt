@@ -16,36 +16,15 @@ Inv-loop job from i₀ i = (from ≤ i) × (from + span (drop from job) ≡ i + 
 abbrev μ-loop : tie.MeasureT-loop
 μ-loop job from i₀ i = length job - i
 
-loop-holds : tie.Need-loop-holds Inv-loop μ-loop
-loop-holds c = search needs
-
-shared-slice-read-is-graphic : tie.Need-shared-slice-read-is-graphic Inv-loop μ-loop
-shared-slice-read-is-graphic c = search needs
-
-is-graphic-requires : tie.Need-is-graphic-requires Inv-loop μ-loop
-is-graphic-requires c κs = search needs
-
-sub-result : tie.Need-sub-result Inv-loop μ-loop
-sub-result c = search needs
-
 returns : tie.Need-returns Inv-loop μ-loop
 returns c =
     let h = span-off (c .before .before .before .before .before .before .args .job .now) (c .before .before .before .before .loop .i) (c .before .before .before .loop-test .taken) (sym (c .before .is-graphic .ensures) ∙ not-true _ (c .if1 .taken)) in
     omega arith
 
-add-i : tie.Need-add-i Inv-loop μ-loop
-add-i c = search needs
-
-loop-less : tie.Need-loop-less Inv-loop μ-loop
-loop-less c = search needs
-
 loop-again : tie.Need-loop-again Inv-loop μ-loop
 loop-again c =
     let h = span-on (c .before .before .before .before .before .before .args .job .now) (c .before .before .before .before .loop .i) (c .before .before .before .loop-test .taken) (sym (c .before .is-graphic .ensures) ∙ not-false _ (c .if1 .left)) in
     (search needs, omega arith)
-
-sub-result-2 : tie.Need-sub-result-2 Inv-loop μ-loop
-sub-result-2 c = search needs
 
 returns-2 : tie.Need-returns-2 Inv-loop μ-loop
 returns-2 c =
@@ -55,16 +34,5 @@ returns-2 c =
 pub span-spec : {M : Type 1} → statement M
 span-spec =
     tie.close
-    (tie.spec
-    Inv-loop
-    μ-loop
-    loop-holds
-    shared-slice-read-is-graphic
-    is-graphic-requires
-    sub-result
-    returns
-    add-i
-    loop-less
-    loop-again
-    sub-result-2
-    returns-2)
+    (tie.spec Inv-loop μ-loop (λ loop-holds. search needs) (λ shared-slice-read-is-graphic. search needs) (λ is-graphic-requires κs. search needs)
+    (λ sub-result. search needs) returns (λ add-i. search needs) (λ loop-less. search needs) loop-again (λ sub-result-2. search needs) returns-2)

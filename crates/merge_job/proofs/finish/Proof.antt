@@ -8,32 +8,11 @@ use borrow.Author.Needs.{needs}
 use Rattle.merge_job.proofs.finish.Statement.{statement}
 use Rattle.merge_job.proofs.finish.Tie as tie
 
-slice-aggregate-write : tie.Need-slice-aggregate-write
-slice-aggregate-write c = search needs
-
-slice-aggregate-write-2 : tie.Need-slice-aggregate-write-2
-slice-aggregate-write-2 c = search needs
-
-write-requires : tie.Need-write-requires
-write-requires c κs = search needs
-
-slice-aggregate-path-in : tie.Need-slice-aggregate-path-in
-slice-aggregate-path-in c = search needs
-
-path-in-requires : tie.Need-path-in-requires
-path-in-requires c κs = search needs
-
-add-from : tie.Need-add-from
-add-from c = let m = c .before .before .before .before .before .before .before .before .before in omega (arith, out-room (m .args .job .now) _ _ (m .pre .0) (m .args .places) (m .pre .1) _ (c .before .path-in .ensures))
+insert-from : tie.Need-add-from
+insert-from c = let m = c .before .before .before .before .before .before .before .before .before in omega (arith, out-room (m .args .job .now) _ _ (m .pre .0) (m .args .places) (m .pre .1) _ (c .before .path-in .ensures))
 
 add-end : tie.Need-add-end
 add-end c = let m = c .before .before .before .before .before .before .before .before .before in omega (arith, out-room (m .args .job .now) _ _ (m .pre .0) (m .args .places) (m .pre .1) _ (c .before .path-in .ensures))
-
-sub-put : tie.Need-sub-put
-sub-put c = search needs
-
-part-put-start : tie.Need-part-put-start
-part-put-start c = search needs
 
 part-put-end : tie.Need-part-put-end
 part-put-end c = let m = c .before .before .before .before .before .before .before .before .before in omega (arith, out-room (m .args .job .now) _ _ (m .pre .0) (m .args .places) (m .pre .1) _ (c .before .path-in .ensures))
@@ -51,9 +30,6 @@ put-requires c κs =
     let m = at-write .before .before .before .before .before in
     puts (m .args .job .now) _ _ (m .pre .0) (m .args .places) (m .pre .1) _ (at-path-in .path-in .ensures) _ (written _ _ _ (m .pre .0) _ _ (at-write .write .ensures) (search needs) .0)
 
-refused-requires : tie.Need-refused-requires
-refused-requires c κs = search needs
-
 returns : tie.Need-returns
 returns c = (false, c .refused .ensures)
 
@@ -69,21 +45,7 @@ returns-2 c = (true, c .merged .ensures)
 pub finish-spec : {M : Type 1} → statement M
 finish-spec =
     tie.close
-    (tie.spec
-    slice-aggregate-write
-    slice-aggregate-write-2
-    write-requires
-    slice-aggregate-path-in
-    path-in-requires
-    add-from
-    add-end
-    sub-put
-    part-put-start
-    part-put-end
-    array-share-prefix-image
-    slice-aggregate-put
-    put-requires
-    refused-requires
-    returns
-    merged-requires
-    returns-2)
+    (tie.spec (λ slice-aggregate-write. search needs) (λ slice-aggregate-write-2. search needs) (λ write-requires κs. search needs)
+    (λ slice-aggregate-path-in. search needs) (λ path-in-requires κs. search needs) insert-from add-end (λ sub-put. search needs)
+    (λ part-put-start. search needs) part-put-end array-share-prefix-image slice-aggregate-put put-requires (λ refused-requires κs. search needs)
+    returns merged-requires returns-2)

@@ -5,69 +5,30 @@ use borrow.Author.Needs.{needs}
 use Rattle.merge_job.proofs.join.Statement.{statement}
 use Rattle.merge_job.proofs.join.Tie as tie
 
-open-requires : tie.Need-open-requires
-open-requires c κs = search needs
-
-number-requires : tie.Need-number-requires
-number-requires c κs = search needs
-
-same-length : tie.Need-same-length
-same-length c = search needs
-
-same-length-2 : tie.Need-same-length-2
-same-length-2 c = search needs
-
-same-length-3 : tie.Need-same-length-3
-same-length-3 c = search needs
+load-requires : tie.Need-load-requires
+load-requires c κs = c .before .before .before .before .before .before .before .before .pre .headed
 
 returns : tie.Need-returns
 returns c =
-    let at-number = c .before in
-    let at-open = at-number .before .before .before .before .before .before .before in
-    let m = at-open .before .before .before .before .before .before .before .before .before in
-    join-refused (m .args .target) (m .args .tregs .now) (m .args .image .now) (m .args .regs .now) (m .args .aux .now) (m .args .scratch .now) (m .pre) _ _ _ _ (at-open .«open» .ensures) _ (at-number .number .ensures) (c .if1 .taken)
-
-merge-requires : tie.Need-merge-requires
-merge-requires c κs = search needs
-
-number-requires-2 : tie.Need-number-requires-2
-number-requires-2 c κs = search needs
-
-same-length-4 : tie.Need-same-length-4
-same-length-4 c = search needs
-
-same-length-5 : tie.Need-same-length-5
-same-length-5 c = search needs
-
-same-length-6 : tie.Need-same-length-6
-same-length-6 c = search needs
-
-same-length-7 : tie.Need-same-length-7
-same-length-7 c = search needs
+    let loaded = c .before .before .before .before .before .before .before .before in
+    let m = loaded .before .before .before .before .before .before .before .before .before in
+    let a = m .args in
+    join-refused (a .target) (a .tregs .now) (a .image .now) (a .regs .now) (a .aux .now) (a .scratch .now) (m .pre) _ _ _ _
+    (loaded .load .ensures) _ (c .before .number .ensures) (c .if1 .taken)
 
 returns-2 : tie.Need-returns-2
 returns-2 c =
-    let at-merge = c .before .before .before .before in
-    let at-if1 = at-merge .before .before .before .before .before in
-    let at-number = at-if1 .before in
-    let at-open = at-number .before .before .before .before .before .before .before in
-    let m = at-open .before .before .before .before .before .before .before .before .before in
-    join-merged (m .args .target) (m .args .tregs .now) (m .args .image .now) (m .args .regs .now) (m .args .aux .now) (m .args .scratch .now) (m .pre) _ _ _ _ (at-open .«open» .ensures) (c .number2 .ensures) (at-merge .merge .ensures) (sym (at-number .number .ensures) ∙ at-if1 .if1 .left)
+    let merged = c .before .before .before .before in
+    let opened = merged .before .before .before .before .before in
+    let loaded = opened .before .before .before .before .before .before .before .before in
+    let m = loaded .before .before .before .before .before .before .before .before .before in
+    let a = m .args in
+    join-merged (a .target) (a .tregs .now) (a .image .now) (a .regs .now) (a .aux .now) (a .scratch .now) (m .pre) _ _ _ _
+    (loaded .load .ensures) (c .number2 .ensures) (merged .merge .ensures) (sym (opened .before .number .ensures) ∙ opened .if1 .left)
 
 pub join-spec : {M : Type 1} → statement M
 join-spec =
     tie.close
-    (tie.spec
-    open-requires
-    number-requires
-    same-length
-    same-length-2
-    same-length-3
-    returns
-    merge-requires
-    number-requires-2
-    same-length-4
-    same-length-5
-    same-length-6
-    same-length-7
-    returns-2)
+    (tie.spec load-requires (λ number-requires κs. search needs) (λ same-length. search needs) (λ same-length-2. search needs)
+    (λ same-length-3. search needs) returns (λ merge-requires κs. search needs) (λ number-requires-2 κs. search needs) (λ same-length-4. search needs)
+    (λ same-length-5. search needs) (λ same-length-6. search needs) (λ same-length-7. search needs) returns-2)

@@ -18,23 +18,11 @@ abbrev μ-loop : tie.MeasureT-loop
 loop-holds : tie.Need-loop-holds Inv-loop μ-loop
 loop-holds c = (search needs, search needs, c .before .before .pre .ins-are, none-yet _ _)
 
-slice-aggregate-path-in : tie.Need-slice-aggregate-path-in Inv-loop μ-loop
-slice-aggregate-path-in c = search needs
-
-path-in-requires : tie.Need-path-in-requires Inv-loop μ-loop
-path-in-requires c κs = search needs
-
-add-from : tie.Need-add-from Inv-loop μ-loop
-add-from c = let m = c .before .before .before .before .before .before in let t = c .before .before .before .loop in omega (arith, within (m .args .job .now) _ _ (m .pre) (t .at) (t .done) _ (c .before .before .loop-test .taken) (t .inv .2) (c .path-in .ensures))
+insert-from : tie.Need-add-from Inv-loop μ-loop
+insert-from c = let m = c .before .before .before .before .before .before in let t = c .before .before .before .loop in omega (arith, within (m .args .job .now) _ _ (m .pre) (t .at) (t .done) _ (c .before .before .loop-test .taken) (t .inv .2) (c .path-in .ensures))
 
 add-end : tie.Need-add-end Inv-loop μ-loop
 add-end c = let m = c .before .before .before .before .before .before in let t = c .before .before .before .loop in omega (arith, within (m .args .job .now) _ _ (m .pre) (t .at) (t .done) _ (c .before .before .loop-test .taken) (t .inv .2) (c .path-in .ensures))
-
-sub-take-file : tie.Need-sub-take-file Inv-loop μ-loop
-sub-take-file c = omega arith
-
-part-take-file-start : tie.Need-part-take-file-start Inv-loop μ-loop
-part-take-file-start c = omega arith
 
 part-take-file-end : tie.Need-part-take-file-end Inv-loop μ-loop
 part-take-file-end c =
@@ -52,12 +40,6 @@ take-file-requires c κs =
     let m = at-loop .before .before .before in
     named (m .args .job .now) _ _ (m .pre) (at-loop .loop .at) (at-loop .loop .done) _ (at-loop-test .loop-test .taken) (at-loop .loop .inv .2) (at-path-in .path-in .ensures)
 
-add-t25 : tie.Need-add-t25 Inv-loop μ-loop
-add-t25 c = search needs
-
-same-length : tie.Need-same-length Inv-loop μ-loop
-same-length c = search needs
-
 returns : tie.Need-returns Inv-loop μ-loop
 returns c =
     let at-take-file = c .before .before .before .before .before in
@@ -74,12 +56,6 @@ add-at c =
     let m = at-loop .before .before .before in
     omega (arith, within (m .args .job .now) _ _ (m .pre) (at-loop .loop .at) (at-loop .loop .done) _ (at-loop-test .loop-test .taken) (at-loop .loop .inv .2) (at-path-in .path-in .ensures))
 
-add-done : tie.Need-add-done Inv-loop μ-loop
-add-done c = search needs
-
-loop-less : tie.Need-loop-less Inv-loop μ-loop
-loop-less c = search needs
-
 loop-again : tie.Need-loop-again Inv-loop μ-loop
 loop-again c =
     let m = c .before .before .before .before .before .before .before .before .before .before .before .before .before .before .before in
@@ -90,33 +66,13 @@ loop-again c =
       passed (m .args .target) (m .args .tregs .now) (t .done) (t .sketch) (t .tregs) (t .inv .3) _ _ _ _ (c .before .before .before .before .before .take-file .ensures) (c .if1 .left),
     )
 
-same-length-2 : tie.Need-same-length-2 Inv-loop μ-loop
-same-length-2 c = search needs
-
 returns-2 : tie.Need-returns-2 Inv-loop μ-loop
 returns-2 c = ended _ _ _ _ _ _ (c .before .loop .inv .3) (omega arith)
 
 pub merge-all-spec : {M : Type 1} → statement M
 merge-all-spec =
     tie.close
-    (tie.spec
-    Inv-loop
-    μ-loop
-    loop-holds
-    slice-aggregate-path-in
-    path-in-requires
-    add-from
-    add-end
-    sub-take-file
-    part-take-file-start
-    part-take-file-end
-    take-file-requires
-    add-t25
-    same-length
-    returns
-    add-at
-    add-done
-    loop-less
-    loop-again
-    same-length-2
+    (tie.spec Inv-loop μ-loop loop-holds (λ slice-aggregate-path-in. search needs) (λ path-in-requires κs. search needs) insert-from add-end
+    (λ sub-take-file. omega arith) (λ part-take-file-start. omega arith) part-take-file-end take-file-requires (λ add-t25. search needs)
+    (λ same-length. search needs) returns add-at (λ add-done. search needs) (λ loop-less. search needs) loop-again (λ same-length-2. search needs)
     returns-2)

@@ -4,20 +4,8 @@ use borrow.Author.Needs.{needs}
 use Rattle.merge_job.proofs.run_in.Statement.{statement}
 use Rattle.merge_job.proofs.run_in.Tie as tie
 
-slice-aggregate-start : tie.Need-slice-aggregate-start
-slice-aggregate-start c = search needs
-
-start-requires : tie.Need-start-requires
-start-requires c κs = search needs
-
 merge-all-requires : tie.Need-merge-all-requires
 merge-all-requires c κs = let m = c .before .before .before .before .before .before .before .before .before .before in lists (m .args .job .now) (m .args .places) _ (m .pre)
-
-refused-requires : tie.Need-refused-requires
-refused-requires c κs = search needs
-
-same-length : tie.Need-same-length
-same-length c = search needs
 
 returns : tie.Need-returns
 returns c =
@@ -35,9 +23,6 @@ finish-requires c κs =
     let m = at-start .before .before .before .before .before in
     (all-whole (m .args .job .now) (m .args .places) (m .args .regs .now) (m .pre) _ (at-start .start .ensures) _ (at-merge-all .merge-all .ensures) (at-if1 .if1 .left), m .pre .is)
 
-same-length-2 : tie.Need-same-length-2
-same-length-2 c = search needs
-
 returns-2 : tie.Need-returns-2
 returns-2 c =
     let at-if1 = c .before .before .before .before in
@@ -49,13 +34,5 @@ returns-2 c =
 pub run-in-spec : {M : Type 1} → statement M
 run-in-spec =
     tie.close
-    (tie.spec
-    slice-aggregate-start
-    start-requires
-    merge-all-requires
-    refused-requires
-    same-length
-    returns
-    finish-requires
-    same-length-2
-    returns-2)
+    (tie.spec (λ slice-aggregate-start. search needs) (λ start-requires κs. search needs) merge-all-requires (λ refused-requires κs. search needs)
+    (λ same-length. search needs) returns finish-requires (λ same-length-2. search needs) returns-2)

@@ -6,12 +6,6 @@ use borrow.Author.Needs.{needs}
 use Rattle.merge_job.proofs.run_job.Statement.{statement}
 use Rattle.merge_job.proofs.run_job.Tie as tie
 
-parse-requires : tie.Need-parse-requires
-parse-requires c κs = search needs
-
-refused-requires : tie.Need-refused-requires
-refused-requires c κs = search needs
-
 returns : tie.Need-returns
 returns c = no-job-reported (c .before .before .before .before .before .before .args .job .now) _ (c .before .before .before .before .parse .ensures) (c .before .before .if1 .taken) _ _ (c .refused .ensures)
 
@@ -27,18 +21,8 @@ slice-aggregate-run-in c = registers-same (c .before .before .before .before .be
 run-in-requires : tie.Need-run-in-requires
 run-in-requires c κs = asked (c .before .before .before .before .before .before .before .args .job .now) _ (c .before .before .before .before .before .parse .ensures) (c .before .before .before .if1 .left) _ (c .before .before .bytes-of .ensures)
 
-returns-2 : tie.Need-returns-2
-returns-2 c = search needs
-
 pub run-job-spec : {M : Type 1} → statement M
 run-job-spec =
     tie.close
-    (tie.spec
-    parse-requires
-    refused-requires
-    returns
-    bytes-of-requires
-    array-borrow-prefix-regs
-    slice-aggregate-run-in
-    run-in-requires
-    returns-2)
+    (tie.spec (λ parse-requires κs. search needs) (λ refused-requires κs. search needs) returns bytes-of-requires array-borrow-prefix-regs
+    slice-aggregate-run-in run-in-requires (λ returns-2. search needs))

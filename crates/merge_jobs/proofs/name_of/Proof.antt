@@ -15,4 +15,6 @@ returns : tie.Need-returns
 returns c = counts _ _ (omega (arith, decimal-few (c .before .before .before .before .before .args .i) 19 (omega arith)))
 
 pub name-of-spec : {M : Type 1} → statement M
-name-of-spec = tie.close (tie.spec put-decimal-requires put-requires returns)
+name-of-spec =
+    tie.close
+    (tie.spec put-decimal-requires put-requires returns)

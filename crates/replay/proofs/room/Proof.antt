@@ -12,4 +12,6 @@ returns : tie.Need-returns
 returns c = zeros 1048576
 
 pub room-spec : {M : Type 1} → statement M
-room-spec = tie.close (tie.spec returns)
+room-spec =
+    tie.close
+    (tie.spec returns)

@@ -6,30 +6,12 @@ use lib.ListN.{length, getD}
 use borrow.Author.Needs.{needs}
 use Rattle.model.specs.Registers.{countOf}
 use Rattle.model.specs.Sums.{scaled}
-use Rattle.model.proofs.Lowest.{count-le}
+use Rattle.model.proofs.registers.Lowest.{count-le}
 use Rattle.text.proofs.Writing.{written-next, written-holds}
 use Rattle.report.specs.Report.{most, mergedText}
 use Rattle.report.proofs.Lines.{line-ends, line-fits, answer-ends}
 use Rattle.report.proofs.merged.Statement.{statement}
 use Rattle.report.proofs.merged.Tie as tie
-
-counts-requires : tie.Need-counts-requires
-counts-requires c κs = search needs
-
-array-read-zeros : tie.Need-array-read-zeros
-array-read-zeros c = search needs
-
-scaled-of-requires : tie.Need-scaled-of-requires
-scaled-of-requires c κs = search needs
-
-scaled-of-requires-2 : tie.Need-scaled-of-requires-2
-scaled-of-requires-2 c κs = search needs
-
-most-of-requires : tie.Need-most-of-requires
-most-of-requires c κs = search needs
-
-put-answer-requires : tie.Need-put-answer-requires
-put-answer-requires c κs = search needs
 
 -- a count is no larger than the registers are many
 few : (c : tie.After-counts) (v : ℕ) → v < 64 → getD (c .counts .result) v 0 < 10 ^ 20
@@ -55,46 +37,24 @@ seventh : (c : tie.After-put-line5) → c .put-line5 .result ≤ 112
 seventh c = omega (arith, sixth (c .before .before .before), line-ends _ _ 19 (c .put-line5 .ensures) (search needs))
 
 end : (c : tie.After-put-line6) → c .put-line6 .result ≤ 139
-end c = omega (arith, seventh (c .before .before .before), line-ends _ _ 19 (c .put-line6 .ensures) (omega (arith, c .before .before .before .before .before .before .before .before .before .before .before .before .before .before .before .before .before .before .before .before .before .scaled-of2 .ok)))
-
-slice-aggregate-put-line : tie.Need-slice-aggregate-put-line
-slice-aggregate-put-line c = search needs
+end c =
+    let scaled = c .before .before .before .before .before .before .before .before .before .before .before .before .before .before .before .before .before .before .before .before .before in
+    omega (arith, seventh (c .before .before .before), line-ends _ _ 19 (c .put-line6 .ensures) (omega (arith, scaled .scaled-of2 .ok)))
 
 put-line-requires : tie.Need-put-line-requires
 put-line-requires c κs = line-fits _ _ _ 19 (search needs) (omega (arith, second (c .before .before)))
 
-slice-aggregate-put-line-2 : tie.Need-slice-aggregate-put-line-2
-slice-aggregate-put-line-2 c = search needs
-
 put-line-requires-2 : tie.Need-put-line-requires-2
 put-line-requires-2 c κs = line-fits _ _ _ 2 (search needs) (omega (arith, third (c .before .before)))
-
-slice-aggregate-put-line-3 : tie.Need-slice-aggregate-put-line-3
-slice-aggregate-put-line-3 c = search needs
-
-cast-put-line : tie.Need-cast-put-line
-cast-put-line c = search needs
 
 put-line-requires-3 : tie.Need-put-line-requires-3
 put-line-requires-3 c κs = line-fits _ _ _ 19 (few (c .before .before .before .before .before .before .before .before .before .before .before .before .before) _ (search needs)) (omega (arith, fourth (c .before .before)))
 
-slice-aggregate-put-line-4 : tie.Need-slice-aggregate-put-line-4
-slice-aggregate-put-line-4 c = search needs
-
-cast-put-line-2 : tie.Need-cast-put-line-2
-cast-put-line-2 c = search needs
-
 put-line-requires-4 : tie.Need-put-line-requires-4
 put-line-requires-4 c κs = line-fits _ _ _ 2 (search needs) (omega (arith, fifth (c .before .before)))
 
-slice-aggregate-put-line-5 : tie.Need-slice-aggregate-put-line-5
-slice-aggregate-put-line-5 c = search needs
-
 put-line-requires-5 : tie.Need-put-line-requires-5
 put-line-requires-5 c κs = line-fits _ _ _ 19 (search needs) (omega (arith, sixth (c .before .before)))
-
-slice-aggregate-put-line-6 : tie.Need-slice-aggregate-put-line-6
-slice-aggregate-put-line-6 c = search needs
 
 put-line-requires-6 : tie.Need-put-line-requires-6
 put-line-requires-6 c κs = line-fits _ _ _ 19 (omega (arith, c .before .before .before .before .before .before .before .before .before .before .before .before .before .before .before .before .before .before .before .before .scaled-of2 .ok)) (omega (arith, seventh (c .before .before)))
@@ -125,25 +85,9 @@ returns c =
 pub merged-spec : {M : Type 1} → statement M
 merged-spec =
     tie.close
-    (tie.spec
-    counts-requires
-    array-read-zeros
-    scaled-of-requires
-    scaled-of-requires-2
-    most-of-requires
-    put-answer-requires
-    slice-aggregate-put-line
-    put-line-requires
-    slice-aggregate-put-line-2
-    put-line-requires-2
-    slice-aggregate-put-line-3
-    cast-put-line
-    put-line-requires-3
-    slice-aggregate-put-line-4
-    cast-put-line-2
-    put-line-requires-4
-    slice-aggregate-put-line-5
-    put-line-requires-5
-    slice-aggregate-put-line-6
-    put-line-requires-6
-    returns)
+    (tie.spec (λ counts-requires κs. search needs) (λ array-read-zeros. search needs) (λ scaled-of-requires κs. search needs)
+    (λ scaled-of-requires-2 κs. search needs) (λ most-of-requires κs. search needs) (λ put-answer-requires κs. search needs)
+    (λ slice-aggregate-put-line. search needs) put-line-requires (λ slice-aggregate-put-line-2. search needs) put-line-requires-2
+    (λ slice-aggregate-put-line-3. search needs) (λ cast-put-line. search needs) put-line-requires-3 (λ slice-aggregate-put-line-4. search needs)
+    (λ cast-put-line-2. search needs) put-line-requires-4 (λ slice-aggregate-put-line-5. search needs) put-line-requires-5
+    (λ slice-aggregate-put-line-6. search needs) put-line-requires-6 returns)

@@ -16,17 +16,8 @@ abbrev μ-loop : tie.MeasureT-loop
 loop-holds : tie.Need-loop-holds Inv-loop μ-loop
 loop-holds c = (search needs, refl)
 
-array-read-if1 : tie.Need-array-read-if1 Inv-loop μ-loop
-array-read-if1 c = search needs
-
 returns : tie.Need-returns Inv-loop μ-loop
 returns c = trim-off _ _ (c .before .before .loop .inv .1) (search needs) (c .if1 .taken)
-
-add-n : tie.Need-add-n Inv-loop μ-loop
-add-n c = search needs
-
-loop-less : tie.Need-loop-less Inv-loop μ-loop
-loop-less c = search needs
 
 loop-again : tie.Need-loop-again Inv-loop μ-loop
 loop-again c = (omega arith, trim-on _ _ (c .before .before .loop .inv .1) (search needs) (c .if1 .left))
@@ -37,13 +28,5 @@ returns-2 c = trim-end _ _ (c .before .loop .inv .1) (search needs)
 pub name-len-spec : {M : Type 1} → statement M
 name-len-spec =
     tie.close
-    (tie.spec
-    Inv-loop
-    μ-loop
-    loop-holds
-    array-read-if1
-    returns
-    add-n
-    loop-less
-    loop-again
+    (tie.spec Inv-loop μ-loop loop-holds (λ array-read-if1. search needs) returns (λ add-n. search needs) (λ loop-less. search needs) loop-again
     returns-2)

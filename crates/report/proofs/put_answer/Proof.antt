@@ -7,23 +7,8 @@ use Rattle.report.proofs.Names.{name-few}
 use Rattle.report.proofs.put_answer.Statement.{statement}
 use Rattle.report.proofs.put_answer.Tie as tie
 
-slice-aggregate-put : tie.Need-slice-aggregate-put
-slice-aggregate-put c = search needs
-
-put-requires : tie.Need-put-requires
-put-requires c κs = search needs
-
-put-name-requires : tie.Need-put-name-requires
-put-name-requires c κs = search needs
-
-slice-aggregate-put-2 : tie.Need-slice-aggregate-put-2
-slice-aggregate-put-2 c = search needs
-
 put-requires-2 : tie.Need-put-requires-2
 put-requires-2 c κs = omega (arith, name-few (c .before .before .before .before .before .before .before .before .before .before .before .before .args .code))
-
-same-length : tie.Need-same-length
-same-length c = search needs
 
 returns : tie.Need-returns
 unfolding line
@@ -32,11 +17,5 @@ returns c = written-next (written-next (c .before .before .before .before .befor
 pub put-answer-spec : {M : Type 1} → statement M
 put-answer-spec =
     tie.close
-    (tie.spec
-    slice-aggregate-put
-    put-requires
-    put-name-requires
-    slice-aggregate-put-2
-    put-requires-2
-    same-length
-    returns)
+    (tie.spec (λ slice-aggregate-put. search needs) (λ put-requires κs. search needs) (λ put-name-requires κs. search needs)
+    (λ slice-aggregate-put-2. search needs) put-requires-2 (λ same-length. search needs) returns)

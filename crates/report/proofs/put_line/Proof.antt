@@ -13,14 +13,8 @@ put-requires c κs = omega (arith, line-long (c .before .before .before .args .k
 put-decimal-requires : tie.Need-put-decimal-requires
 put-decimal-requires c κs = omega (arith, line-long (c .before .before .before .before .before .before .before .args .key .now) (decimal (c .before .before .before .before .before .before .before .args .n)))
 
-slice-aggregate-put : tie.Need-slice-aggregate-put
-slice-aggregate-put c = search needs
-
 put-requires-2 : tie.Need-put-requires-2
 put-requires-2 c κs = omega (arith, line-long (c .before .before .before .before .before .before .before .before .before .before .before .before .args .key .now) (decimal (c .before .before .before .before .before .before .before .before .before .before .before .before .args .n)))
-
-same-length : tie.Need-same-length
-same-length c = search needs
 
 returns : tie.Need-returns
 unfolding line
@@ -29,10 +23,4 @@ returns c = written-next (written-next (c .before .before .before .before .befor
 pub put-line-spec : {M : Type 1} → statement M
 put-line-spec =
     tie.close
-    (tie.spec
-    put-requires
-    put-decimal-requires
-    slice-aggregate-put
-    put-requires-2
-    same-length
-    returns)
+    (tie.spec put-requires put-decimal-requires (λ slice-aggregate-put. search needs) put-requires-2 (λ same-length. search needs) returns)

@@ -8,36 +8,11 @@ use Rattle.report.proofs.put_name.Tie as tie
 returns : tie.Need-returns
 returns c = rw (no-name _ (c .if1 .taken)) (written-none _ _)
 
-name-at-requires : tie.Need-name-at-requires
-name-at-requires c κs = search needs
-
-name-len-requires : tie.Need-name-len-requires
-name-len-requires c κs = search needs
-
-array-share-prefix-name : tie.Need-array-share-prefix-name
-array-share-prefix-name c = search needs
-
-slice-aggregate-put : tie.Need-slice-aggregate-put
-slice-aggregate-put c = search needs
-
-put-requires : tie.Need-put-requires
-put-requires c κs = search needs
-
-same-length : tie.Need-same-length
-same-length c = search needs
-
 returns-2 : tie.Need-returns-2
 returns-2 c = rw (c .before .before .before .before .before .name-len .ensures .bytes, c .before .before .before .before .before .before .name-at .ensures) at (c .before .before .put .ensures)
 
 pub put-name-spec : {M : Type 1} → statement M
 put-name-spec =
     tie.close
-    (tie.spec
-    returns
-    name-at-requires
-    name-len-requires
-    array-share-prefix-name
-    slice-aggregate-put
-    put-requires
-    same-length
-    returns-2)
+    (tie.spec returns (λ name-at-requires κs. search needs) (λ name-len-requires κs. search needs) (λ array-share-prefix-name. search needs)
+    (λ slice-aggregate-put. search needs) (λ put-requires κs. search needs) (λ same-length. search needs) returns-2)

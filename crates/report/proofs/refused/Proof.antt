@@ -8,23 +8,14 @@ use Rattle.report.proofs.Lines.{line-ends, line-fits, answer-ends}
 use Rattle.report.proofs.refused.Statement.{statement}
 use Rattle.report.proofs.refused.Tie as tie
 
-put-answer-requires : tie.Need-put-answer-requires
-put-answer-requires c κs = search needs
-
 second : (c : tie.After-put-answer) → c .put-answer .result ≤ 15
 second c = answer-ends _ (c .put-answer .ensures)
 
 third : (c : tie.After-put-line) → c .put-line .result ≤ 24
 third c = omega (arith, second (c .before .before .before), line-ends _ _ 2 (c .put-line .ensures) (search needs))
 
-slice-aggregate-put-line : tie.Need-slice-aggregate-put-line
-slice-aggregate-put-line c = search needs
-
 put-line-requires : tie.Need-put-line-requires
 put-line-requires c κs = line-fits _ _ _ 2 (search needs) (omega (arith, second (c .before .before)))
-
-slice-aggregate-put-line-2 : tie.Need-slice-aggregate-put-line-2
-slice-aggregate-put-line-2 c = search needs
 
 put-line-requires-2 : tie.Need-put-line-requires-2
 put-line-requires-2 c κs = line-fits _ _ _ 19 (search needs) (omega (arith, third (c .before .before)))
@@ -38,10 +29,5 @@ returns c =
 pub refused-spec : {M : Type 1} → statement M
 refused-spec =
     tie.close
-    (tie.spec
-    put-answer-requires
-    slice-aggregate-put-line
-    put-line-requires
-    slice-aggregate-put-line-2
-    put-line-requires-2
-    returns)
+    (tie.spec (λ put-answer-requires κs. search needs) (λ slice-aggregate-put-line. search needs) put-line-requires
+    (λ slice-aggregate-put-line-2. search needs) put-line-requires-2 returns)

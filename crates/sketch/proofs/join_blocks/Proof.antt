@@ -10,13 +10,12 @@ pour-requires c κs = joins-floors _ _ _ _ (c .before .before .before .before .p
 raise-exceptions-requires : tie.Need-raise-exceptions-requires
 raise-exceptions-requires c κs = joins-words _ _ _ _ (c .before .before .before .before .before .before .before .before .pre) (c .before .before .before .pour .kept .1 .1 .0)
 
-same-length : tie.Need-same-length
-same-length c = search needs
-
 returns : tie.Need-returns
 returns c =
     let poured = c .before .before .before .before .before .before .pour in
     joins-all _ _ _ _ (c .before .before .before .before .before .before .before .before .before .before .before .pre) _ (poured .ensures) (poured .kept .1 .1 .0) (c .before .before .raise-exceptions .ensures)
 
 pub join-blocks-spec : {M : Type 1} → statement M
-join-blocks-spec = tie.close (tie.spec pour-requires raise-exceptions-requires same-length returns)
+join-blocks-spec =
+    tie.close
+    (tie.spec pour-requires raise-exceptions-requires (λ same-length. search needs) returns)

@@ -10,37 +10,16 @@ use Rattle.sketch.proofs.merge.Statement.{statement}
 use Rattle.sketch.proofs.merge.Tie as tie
 
 target-ok : (c : tie.Else1) → let a = c .before .before .before .before .before .before .before .args in eightNo (a .target) (now (a .tregs)) ≡ 0
-target-ok c = sym (c .before .before .eight .ensures) ∙ sym (c .before .number .ensures) ∙ c .if1 .left
+target-ok c = sym (c .before .before .check-eight .ensures) ∙ sym (c .before .number .ensures) ∙ c .if1 .left
 
 source-ok : (c : tie.Else2) → let a = c .before .before .before .before .before .before .before .before .before .before .args in checkNo true (a .source) (now (a .sregs)) (now (a .saux)) ≡ 0
 source-ok c = sym (c .before .before .check .ensures) ∙ sym (c .before .number2 .ensures) ∙ c .if2 .left
 
-eight-requires : tie.Need-eight-requires
-eight-requires c κs = search needs
-
-number-requires : tie.Need-number-requires
-number-requires c κs = search needs
-
-same-length : tie.Need-same-length
-same-length c = search needs
-
 returns : tie.Need-returns
-returns c = merge-target _ _ _ _ _ (c .before .before .eight .ensures) (λ e. c .if1 .taken (c .before .number .ensures ∙ e))
-
-check-requires : tie.Need-check-requires
-check-requires c κs = search needs
-
-number-requires-2 : tie.Need-number-requires-2
-number-requires-2 c κs = search needs
-
-same-length-2 : tie.Need-same-length-2
-same-length-2 c = search needs
+returns c = merge-target _ _ _ _ _ (c .before .before .check-eight .ensures) (λ e. c .if1 .taken (c .before .number .ensures ∙ e))
 
 returns-2 : tie.Need-returns-2
 returns-2 c = merge-source _ _ _ _ _ (target-ok (c .before .before .before)) (c .before .before .check .ensures) (λ e. c .if2 .taken (c .before .number2 .ensures ∙ e))
-
-same-length-3 : tie.Need-same-length-3
-same-length-3 c = search needs
 
 returns-3 : tie.Need-returns-3
 returns-3 c = merge-finer _ _ _ _ _ (target-ok (c .before .before .before .before .before .before)) (source-ok (c .before .before .before)) (c .if3 .taken)
@@ -60,31 +39,13 @@ join-requires c κs = joinable (accepted (c .before))
 count-requires : tie.Need-count-requires
 count-requires c κs = after-cells (accepted (c .before .before .before .before .before)) (c .before .before .before .join .ensures)
 
-plain-requires : tie.Need-plain-requires
-plain-requires c κs = search needs
-
-same-length-4 : tie.Need-same-length-4
-same-length-4 c = search needs
-
 returns-4 : tie.Need-returns-4
 returns-4 c = merge-ok (accepted (c .before .before .before .before .before .before .before)) (c .before .before .before .before .before .join .ensures) (c .before .count .ensures) (c .plain .ensures)
 
 pub merge-spec : {M : Type 1} → statement M
 merge-spec =
     tie.close
-    (tie.spec
-    eight-requires
-    number-requires
-    same-length
-    returns
-    check-requires
-    number-requires-2
-    same-length-2
-    returns-2
-    same-length-3
-    returns-3
-    join-requires
-    count-requires
-    plain-requires
-    same-length-4
+    (tie.spec (λ check-eight-requires κs. search needs) (λ number-requires κs. search needs) (λ same-length. search needs) returns
+    (λ check-requires κs. search needs) (λ number-requires-2 κs. search needs) (λ same-length-2. search needs) returns-2
+    (λ same-length-3. search needs) returns-3 join-requires count-requires (λ plain-requires κs. search needs) (λ same-length-4. search needs)
     returns-4)

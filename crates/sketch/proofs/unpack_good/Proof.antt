@@ -10,13 +10,12 @@ floors-requires c κs = whole-asks _ _ _ (c .before .before .before .before .pre
 raise-exceptions-requires : tie.Need-raise-exceptions-requires
 raise-exceptions-requires c κs = whole-words _ _ _ (c .before .before .before .before .before .before .before .before .pre) (c .before .before .before .floors .kept .1 .1 .1 .0)
 
-same-length : tie.Need-same-length
-same-length c = search needs
-
 returns : tie.Need-returns
 returns c =
     let floored = c .before .before .before .before .before .before .floors in
     whole-all _ _ _ (c .before .before .before .before .before .before .before .before .before .before .before .pre) (floored .ensures) (floored .kept .1 .1 .1 .0) (c .before .before .raise-exceptions .ensures)
 
 pub unpack-good-spec : {M : Type 1} → statement M
-unpack-good-spec = tie.close (tie.spec floors-requires raise-exceptions-requires same-length returns)
+unpack-good-spec =
+    tie.close
+    (tie.spec floors-requires raise-exceptions-requires (λ same-length. search needs) returns)

@@ -8,35 +8,18 @@ use Rattle.sketch.proofs.view.Statement.{statement}
 use Rattle.sketch.proofs.view.Tie as tie
 
 refused : (c : tie.Then1) → eightNo (c .before .before .before .before .args .sketch) (now (c .before .before .before .before .args .regs)) ≡ 0 → ⊥
-refused c e = c .if1 .taken (c .before .number .ensures ∙ c .before .before .eight .ensures ∙ e)
-
-eight-requires : tie.Need-eight-requires
-eight-requires c κs = search needs
-
-number-requires : tie.Need-number-requires
-number-requires c κs = search needs
-
-slice-aggregate-result : tie.Need-slice-aggregate-result
-slice-aggregate-result c = search needs
+refused c e = c .if1 .taken (c .before .number .ensures ∙ c .before .before .check-eight .ensures ∙ e)
 
 returns : tie.Need-returns
 unfolding viewOf
 returns c = (simp (ne-eqb _ 0 (refused (c .before))), λ e. absurd (refused (c .before) e))
 
-values-requires : tie.Need-values-requires
-values-requires c κs = search needs
-
 returns-2 : tie.Need-returns-2
 unfolding viewOf
-returns-2 c = (ap now (c .values .ensures) ∙ simp (eq-eqb _ 0 (sym (c .before .before .before .eight .ensures) ∙ sym (c .before .before .number .ensures) ∙ c .before .if1 .left)), λ e. c .values .ensures)
+returns-2 c = (ap now (c .values .ensures) ∙ simp (eq-eqb _ 0 (sym (c .before .before .before .check-eight .ensures) ∙ sym (c .before .before .number .ensures) ∙ c .before .if1 .left)), λ e. c .values .ensures)
 
 pub view-spec : {M : Type 1} → statement M
 view-spec =
     tie.close
-    (tie.spec
-    eight-requires
-    number-requires
-    slice-aggregate-result
-    returns
-    values-requires
-    returns-2)
+    (tie.spec (λ check-eight-requires κs. search needs) (λ number-requires κs. search needs) (λ slice-aggregate-result. search needs) returns
+    (λ values-requires κs. search needs) returns-2)

@@ -5,8 +5,9 @@ use lib.Ieee.{ofBits}
 use denote.Ref.{now}
 use Rattle.model.specs.Sketch.{Good}
 use Rattle.model.specs.Check.{checkNo}
-use Rattle.model.proofs.Kept.{check-ok}
-use Rattle.sketch_sums.proofs.Outcomes.{good-few, sums-no, sums-ok}
+use Rattle.model.proofs.calls.Has.{check-ok}
+use Rattle.block_counts.proofs.Turns.{good-few}
+use Rattle.sketch_sums.proofs.Outcomes.{sums-no, sums-ok}
 use borrow.Author.Needs.{needs}
 use Rattle.sketch_sums.proofs.sums.Statement.{statement}
 use Rattle.sketch_sums.proofs.sums.Tie as tie
@@ -16,12 +17,6 @@ passed c = sym (c .before .before .check .ensures) ∙ sym (c .before .number .e
 
 good : (c : tie.Else1) → let a = c .before .before .before .before .before .args in Good (a .sketch) (now (a .regs)) (now (a .aux))
 good c = check-ok _ _ _ _ (λ i. c .before .before .before .before .shared-slice-known .given i .fits) (passed c)
-
-check-requires : tie.Need-check-requires
-check-requires c κs = search needs
-
-number-requires : tie.Need-number-requires
-number-requires c κs = search needs
 
 returns : tie.Need-returns
 unfolding ofBits
@@ -39,10 +34,4 @@ returns-2 c = sums-ok _ _ _ (passed (c .before .before)) (c .from-counts .ensure
 pub sums-spec : {M : Type 1} → statement M
 sums-spec =
     tie.close
-    (tie.spec
-    check-requires
-    number-requires
-    returns
-    counts-requires
-    from-counts-requires
-    returns-2)
+    (tie.spec (λ check-requires κs. search needs) (λ number-requires κs. search needs) returns counts-requires from-counts-requires returns-2)

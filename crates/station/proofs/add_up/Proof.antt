@@ -4,15 +4,6 @@ use Rattle.station.proofs.Toured.{low-is, high-is, totalled}
 use Rattle.station.proofs.add_up.Statement.{statement}
 use Rattle.station.proofs.add_up.Tie as tie
 
-slice-aggregate-sums : tie.Need-slice-aggregate-sums
-slice-aggregate-sums c = search needs
-
-slice-aggregate-sums-2 : tie.Need-slice-aggregate-sums-2
-slice-aggregate-sums-2 c = search needs
-
-sums-requires : tie.Need-sums-requires
-sums-requires c κs = search needs
-
 float-to-bits-t10 : tie.Need-float-to-bits-t10
 float-to-bits-t10 c = low-is (c .before .before .before .before .before .before .pre) (c .before .sums .ensures)
 
@@ -25,10 +16,5 @@ returns c = totalled (c .before .before .before .before .before .before .before 
 pub add-up-spec : {M : Type 1} → statement M
 add-up-spec =
     tie.close
-    (tie.spec
-    slice-aggregate-sums
-    slice-aggregate-sums-2
-    sums-requires
-    float-to-bits-t10
-    float-to-bits-t11
-    returns)
+    (tie.spec (λ slice-aggregate-sums. search needs) (λ slice-aggregate-sums-2. search needs) (λ sums-requires κs. search needs) float-to-bits-t10
+    float-to-bits-t11 returns)

@@ -1,54 +1,21 @@
 -- `station::fill_four` meets its contract: the contracts of `start` and `feed`, chained and computed. Assumes nothing.
+use lib.ListN.{replicate}
 use borrow.Author.Needs.{needs}
-use Rattle.station.proofs.Toured.{fours}
+use Rattle.station.specs.Tour.{zero-at-fifteen}
+use Rattle.station.proofs.Booked.{booked}
+use Rattle.station.proofs.Toured.{fourFrom, filled}
 use Rattle.station.proofs.fill_four.Statement.{statement}
 use Rattle.station.proofs.fill_four.Tie as tie
 
-slice-aggregate-start : tie.Need-slice-aggregate-start
-slice-aggregate-start c = search needs
-
-slice-aggregate-start-2 : tie.Need-slice-aggregate-start-2
-slice-aggregate-start-2 c = search needs
-
-start-requires : tie.Need-start-requires
-start-requires c κs = search needs
-
-slice-aggregate-feed : tie.Need-slice-aggregate-feed
-slice-aggregate-feed c = search needs
-
-slice-aggregate-feed-2 : tie.Need-slice-aggregate-feed-2
-slice-aggregate-feed-2 c = search needs
-
-slice-aggregate-feed-3 : tie.Need-slice-aggregate-feed-3
-slice-aggregate-feed-3 c = search needs
-
-slice-aggregate-feed-4 : tie.Need-slice-aggregate-feed-4
-slice-aggregate-feed-4 c = search needs
-
-feed-requires : tie.Need-feed-requires
-feed-requires c κs = search needs
-
-number-requires : tie.Need-number-requires
-number-requires c κs = search needs
-
-number-requires-2 : tie.Need-number-requires-2
-number-requires-2 c κs = search needs
-
 returns : tie.Need-returns
-returns c = fours (c .before .number .ensures) (c .number2 .ensures) (c .before .before .before .before .before .before .before .before .before .before .before .before .before .before .start .ensures) (c .before .before .before .before .before .before .feed .ensures)
+returns c =
+    let fed = c .before .before .before .before .before .before in
+    filled fourFrom (replicate 8 5) zero-at-fifteen (c .before .number .ensures) (c .number2 .ensures) (fed .before .before .before .before .before .before .before .before .start .ensures) (booked .starts-4) (fed .feed .ensures) (booked .feeds-4)
 
 pub fill-four-spec : {M : Type 1} → statement M
 fill-four-spec =
     tie.close
-    (tie.spec
-    slice-aggregate-start
-    slice-aggregate-start-2
-    start-requires
-    slice-aggregate-feed
-    slice-aggregate-feed-2
-    slice-aggregate-feed-3
-    slice-aggregate-feed-4
-    feed-requires
-    number-requires
-    number-requires-2
-    returns)
+    (tie.spec (λ slice-aggregate-start. search needs) (λ slice-aggregate-start-2. search needs) (λ start-requires κs. search needs)
+    (λ slice-aggregate-feed. search needs) (λ slice-aggregate-feed-2. search needs) (λ slice-aggregate-feed-3. search needs)
+    (λ slice-aggregate-feed-4. search needs) (λ feed-requires κs. search needs) (λ number-requires κs. search needs)
+    (λ number-requires-2 κs. search needs) returns)

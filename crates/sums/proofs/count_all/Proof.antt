@@ -1,7 +1,6 @@
 -- `sums::count_all` meets its contract. The invariant: the counts are of the registers before and of those passed. Assumes nothing.
 use mathlib.Core.List.{List, _++_}
 use Prim.Native.Nat.{ℕ, _-_}
-use native.Mathlib.Omega.{arith}
 use lib.ListN.{length, take}
 use denote.Ref.{now}
 use Rattle.sums.specs.Tally.{Counted}
@@ -19,17 +18,8 @@ abbrev μ-loop : tie.MeasureT-loop
 loop-holds : tie.Need-loop-holds Inv-loop μ-loop
 loop-holds c = λ R k. counted-start (now (c .before .args .regs)) R _ k
 
-shared-slice-read-count-in : tie.Need-shared-slice-read-count-in Inv-loop μ-loop
-shared-slice-read-count-in c = search needs
-
 count-in-requires : tie.Need-count-in-requires Inv-loop μ-loop
 count-in-requires c κs = next-asks _ (c .before .before .before .loop .i) (c .before .before .loop-test .taken) (c .before .before .before .before .before .pre) (c .before .before .before .loop .inv)
-
-add-i : tie.Need-add-i Inv-loop μ-loop
-add-i c = search needs
-
-loop-less : tie.Need-loop-less Inv-loop μ-loop
-loop-less c = search needs
 
 loop-again : tie.Need-loop-again Inv-loop μ-loop
 loop-again c = λ R k. counted-next _ (c .before .before .before .before .loop .i) (c .before .before .before .loop-test .taken) R _ (c .count-in .ensures _ (c .before .before .before .before .loop .inv R k))
@@ -40,13 +30,5 @@ returns c = λ R k. counted-all _ (c .before .loop .i) R _ (c .loop-test .left) 
 pub count-all-spec : {M : Type 1} → statement M
 count-all-spec =
     tie.close
-    (tie.spec
-    Inv-loop
-    μ-loop
-    loop-holds
-    shared-slice-read-count-in
-    count-in-requires
-    add-i
-    loop-less
-    loop-again
-    returns)
+    (tie.spec Inv-loop μ-loop loop-holds (λ shared-slice-read-count-in. search needs) count-in-requires (λ add-i. search needs)
+    (λ loop-less. search needs) loop-again returns)

@@ -5,9 +5,6 @@ use borrow.Author.Needs.{needs}
 use Rattle.sums.proofs.count_word.Statement.{statement}
 use Rattle.sums.proofs.count_word.Tie as tie
 
-value-requires : tie.Need-value-requires
-value-requires c κs = search needs
-
 returns : tie.Need-returns
 returns c = word-skipped _ (c .before .value .ensures) (c .if1 .taken)
 
@@ -18,4 +15,6 @@ returns-2 : tie.Need-returns-2
 returns-2 c = word-counted _ (c .before .before .before .value .ensures) (c .before .before .if1 .left) (c .count-in .ensures)
 
 pub count-word-spec : {M : Type 1} → statement M
-count-word-spec = tie.close (tie.spec value-requires returns count-in-requires returns-2)
+count-word-spec =
+    tie.close
+    (tie.spec (λ value-requires κs. search needs) returns count-in-requires returns-2)

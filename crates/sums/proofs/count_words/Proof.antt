@@ -16,23 +16,11 @@ abbrev μ-loop : tie.MeasureT-loop
 loop-holds : tie.Need-loop-holds Inv-loop μ-loop
 loop-holds c = saying-none _ _
 
-mul-count-word : tie.Need-mul-count-word Inv-loop μ-loop
-mul-count-word c = search needs
-
-shared-slice-read-count-word : tie.Need-shared-slice-read-count-word Inv-loop μ-loop
-shared-slice-read-count-word c = search needs
-
 count-word-requires : tie.Need-count-word-requires Inv-loop μ-loop
 count-word-requires c κs = saying-asks (c .before .before .before .loop .inv) (c .before .before .before .before .before .pre)
 
 add-many : tie.Need-add-many Inv-loop μ-loop
 add-many c = omega (arith, saying-few (saying-turn (c .before .before .before .before .loop .inv) (c .before .before .before .loop-test .taken) (c .count-word .ensures)), c .before .before .before .before .before .before .pre .few)
-
-add-i : tie.Need-add-i Inv-loop μ-loop
-add-i c = search needs
-
-loop-less : tie.Need-loop-less Inv-loop μ-loop
-loop-less c = search needs
 
 loop-again : tie.Need-loop-again Inv-loop μ-loop
 loop-again c = saying-turn (c .before .before .before .before .loop .inv) (c .before .before .before .loop-test .taken) (c .count-word .ensures)
@@ -43,15 +31,5 @@ returns c = saying-end (c .before .loop .inv) (c .loop-test .left)
 pub count-words-spec : {M : Type 1} → statement M
 count-words-spec =
     tie.close
-    (tie.spec
-    Inv-loop
-    μ-loop
-    loop-holds
-    mul-count-word
-    shared-slice-read-count-word
-    count-word-requires
-    add-many
-    add-i
-    loop-less
-    loop-again
-    returns)
+    (tie.spec Inv-loop μ-loop loop-holds (λ mul-count-word. search needs) (λ shared-slice-read-count-word. search needs) count-word-requires add-many
+    (λ add-i. search needs) (λ loop-less. search needs) loop-again returns)

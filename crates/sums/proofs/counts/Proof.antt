@@ -11,4 +11,6 @@ returns : tie.Need-returns
 returns c = c .count-all .ensures [] counted-none
 
 pub counts-spec : {M : Type 1} → statement M
-counts-spec = tie.close (tie.spec count-all-requires returns)
+counts-spec =
+    tie.close
+    (tie.spec count-all-requires returns)

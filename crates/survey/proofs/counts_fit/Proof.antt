@@ -26,12 +26,6 @@ count c =
     let s = c .before .before .before .before .before .args .s in
     le-leb (s .«aux_count») (2 ^ s .«lg_k») (omega (arith, size (c .before .before .before .before .before), c .if2 .left))
 
-cast-k : tie.Need-cast-k
-cast-k c = search needs
-
-shl-k : tie.Need-shl-k
-shl-k c = search needs
-
 returns : tie.Need-returns
 unfolding countsFit
 returns c =
@@ -63,4 +57,6 @@ returns-5 c =
     rw (num (g .before .before .before .before), count (g .before .before), ne-eqb _ 4 (g .if3 .left), eq-eqb _ 0 (c .before .if4 .left)) refl
 
 pub counts-fit-spec : {M : Type 1} → statement M
-counts-fit-spec = tie.close (tie.spec cast-k shl-k returns returns-2 returns-3 returns-4 returns-5)
+counts-fit-spec =
+    tie.close
+    (tie.spec (λ cast-k. search needs) (λ shl-k. search needs) returns returns-2 returns-3 returns-4 returns-5)

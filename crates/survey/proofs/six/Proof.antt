@@ -15,9 +15,6 @@ sub-t5 c = let start = c .before .before in omega (arith, six-groups (start .pre
 shared-slice-read-t7 : tie.Need-shared-slice-read-t7
 shared-slice-read-t7 c = let start = c .before .before .before in omega (arith, six-groups (start .pre .0) (start .pre .1) .threes)
 
-tally-fits-requires : tie.Need-tally-fits-requires
-tally-fits-requires c κs = search needs
-
 returns : tie.Need-returns
 returns c =
     let zeros = c .before .before in
@@ -32,4 +29,4 @@ returns c =
 pub six-spec : {M : Type 1} → statement M
 six-spec =
     tie.close
-    (tie.spec count-zeros-requires sub-t5 shared-slice-read-t7 tally-fits-requires returns)
+    (tie.spec count-zeros-requires sub-t5 shared-slice-read-t7 (λ tally-fits-requires κs. search needs) returns)

@@ -6,12 +6,6 @@ use Rattle.survey.proofs.Cells.{few, low, tally-is, whole-cells, whole-
 use Rattle.survey.proofs.survey.Statement.{statement}
 use Rattle.survey.proofs.survey.Tie as tie
 
-six-requires : tie.Need-six-requires
-six-requires c κs = search needs
-
-returns : tie.Need-returns
-returns c = search needs
-
 largest-requires : tie.Need-largest-requires
 largest-requires c κs = whole-cells (c .before .before .before .pre) (c .if1 .left)
 
@@ -20,9 +14,6 @@ count-requires c κs = whole-cells (c .before .before .before .before .pre) (c .
 
 sub-t6 : tie.Need-sub-t6
 sub-t6 c = omega (arith, low (c .before .before .before .before .before .before .pre))
-
-tally-fits-requires : tie.Need-tally-fits-requires
-tally-fits-requires c κs = search needs
 
 tokens-requires : tie.Need-tokens-requires
 tokens-requires c κs = few (c .before .before .before .before .before .before .before .pre)
@@ -43,12 +34,5 @@ returns-2 c =
 pub survey-spec : {M : Type 1} → statement M
 survey-spec =
     tie.close
-    (tie.spec
-    six-requires
-    returns
-    largest-requires
-    count-requires
-    sub-t6
-    tally-fits-requires
-    tokens-requires
-    returns-2)
+    (tie.spec (λ six-requires κs. search needs) (λ returns. search needs) largest-requires count-requires sub-t6
+    (λ tally-fits-requires κs. search needs) tokens-requires returns-2)

@@ -14,4 +14,6 @@ returns-3 : tie.Need-returns-3
 returns-3 c = rw (eq-eqb _ _ (c .before .before .before .if1 .left), eq-eqb _ 4 (c .before .if2 .left)) refl
 
 pub tally-fits-spec : {M : Type 1} → statement M
-tally-fits-spec = tie.close (tie.spec returns returns-2 returns-3)
+tally-fits-spec =
+    tie.close
+    (tie.spec returns returns-2 returns-3)

@@ -22,24 +22,6 @@ loop-holds c =
     let e : start .args .from + 0 ≡ start .args .from = omega arith in
     (omega arith, omega arith, omega (arith, ap (left (start .args .regs .now)) e))
 
-add-zeros-at : tie.Need-add-zeros-at Inv-loop μ-loop
-add-zeros-at c = search needs
-
-shared-slice-read-zeros-at : tie.Need-shared-slice-read-zeros-at Inv-loop μ-loop
-shared-slice-read-zeros-at c = search needs
-
-add-zeros-at-2 : tie.Need-add-zeros-at-2 Inv-loop μ-loop
-add-zeros-at-2 c = search needs
-
-add-zeros-at-3 : tie.Need-add-zeros-at-3 Inv-loop μ-loop
-add-zeros-at-3 c = search needs
-
-shared-slice-read-zeros-at-2 : tie.Need-shared-slice-read-zeros-at-2 Inv-loop μ-loop
-shared-slice-read-zeros-at-2 c = search needs
-
-shared-slice-read-zeros-at-3 : tie.Need-shared-slice-read-zeros-at-3 Inv-loop μ-loop
-shared-slice-read-zeros-at-3 c = search needs
-
 zeros-at-requires : tie.Need-zeros-at-requires Inv-loop μ-loop
 zeros-at-requires c κs =
     let l = c .before .before .before .before in
@@ -51,12 +33,6 @@ add-n : tie.Need-add-n Inv-loop μ-loop
 add-n c =
     let l = c .before .before .before .before .before in
     omega (arith, both-most (c .zeros-at .ensures), l .before .before .before .pre .short, l .loop .inv .1)
-
-add-i : tie.Need-add-i Inv-loop μ-loop
-add-i c = search needs
-
-loop-less : tie.Need-loop-less Inv-loop μ-loop
-loop-less c = search needs
 
 loop-again : tie.Need-loop-again Inv-loop μ-loop
 loop-again c =
@@ -84,19 +60,6 @@ returns c =
 pub count-part-spec : {M : Type 1} → statement M
 count-part-spec =
     tie.close
-    (tie.spec
-    Inv-loop
-    μ-loop
-    loop-holds
-    add-zeros-at
-    shared-slice-read-zeros-at
-    add-zeros-at-2
-    add-zeros-at-3
-    shared-slice-read-zeros-at-2
-    shared-slice-read-zeros-at-3
-    zeros-at-requires
-    add-n
-    add-i
-    loop-less
-    loop-again
-    returns)
+    (tie.spec Inv-loop μ-loop loop-holds (λ add-zeros-at. search needs) (λ shared-slice-read-zeros-at. search needs) (λ add-zeros-at-2. search needs)
+    (λ add-zeros-at-3. search needs) (λ shared-slice-read-zeros-at-2. search needs) (λ shared-slice-read-zeros-at-3. search needs) zeros-at-requires
+    add-n (λ add-i. search needs) (λ loop-less. search needs) loop-again returns)

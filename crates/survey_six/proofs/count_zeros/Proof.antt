@@ -34,20 +34,11 @@ count-part-requires c κs =
     let l = c .before .before in
     record { size = refl; table = again-at 64 16 4 16; groups = l .before .before .pre; start = l .loop .inv .1; inside = omega (arith, l .loop .inv .0); short = omega arith }
 
-wide-requires : tie.Need-wide-requires Inv-loop μ-loop
-wide-requires c κs = search needs
-
 add-n : tie.Need-add-n Inv-loop μ-loop
 add-n c =
     let l = c .before .before .before .before in
     let start = l .before .before in
     omega (arith, l .loop .inv .2, c .wide .ensures, c .before .count-part .ensures, left-few (start .args .regs .now), start .pre .few)
-
-add-from : tie.Need-add-from Inv-loop μ-loop
-add-from c = search needs
-
-loop-less : tie.Need-loop-less Inv-loop μ-loop
-loop-less c = search needs
 
 loop-again : tie.Need-loop-again Inv-loop μ-loop
 loop-again c =
@@ -66,9 +57,6 @@ count-part-requires-2 c κs =
     let l = c .before .before in
     record { size = refl; table = again-at 64 16 4 16; groups = l .before .before .pre; start = l .loop .inv .1; inside = omega (arith, l .loop .inv .0); short = omega arith }
 
-wide-requires-2 : tie.Need-wide-requires-2 Inv-loop μ-loop
-wide-requires-2 c κs = search needs
-
 add-result : tie.Need-add-result Inv-loop μ-loop
 add-result c =
     let l = c .before .before .before .before in
@@ -86,22 +74,6 @@ returns c =
 pub count-zeros-spec : {M : Type 1} → statement M
 count-zeros-spec =
     tie.close
-    (tie.spec
-    Inv-loop
-    μ-loop
-    sub-end
-    loop-holds
-    sub-loop
-    slice-aggregate-count-part
-    count-part-requires
-    wide-requires
-    add-n
-    add-from
-    loop-less
-    loop-again
-    slice-aggregate-count-part-2
-    sub-count-part
-    count-part-requires-2
-    wide-requires-2
-    add-result
-    returns)
+    (tie.spec Inv-loop μ-loop sub-end loop-holds sub-loop slice-aggregate-count-part count-part-requires (λ wide-requires κs. search needs) add-n
+    (λ insert-from. search needs) (λ loop-less. search needs) loop-again slice-aggregate-count-part-2 sub-count-part count-part-requires-2
+    (λ wide-requires-2 κs. search needs) add-result returns)

@@ -5,14 +5,10 @@ use borrow.Author.Needs.{needs}
 use Rattle.survey_six.proofs.last_is_zero.Statement.{statement}
 use Rattle.survey_six.proofs.last_is_zero.Tie as tie
 
-returns : tie.Need-returns
-returns c = search needs
-
 returns-2 : tie.Need-returns-2
 returns-2 c = record { yes = λ _. refl; no = λ f. absurd (f (omega arith, c .if2 .taken)); most = omega arith }
 
-returns-3 : tie.Need-returns-3
-returns-3 c = search needs
-
 pub last-is-zero-spec : {M : Type 1} → statement M
-last-is-zero-spec = tie.close (tie.spec returns returns-2 returns-3)
+last-is-zero-spec =
+    tie.close
+    (tie.spec (λ returns. search needs) returns-2 (λ returns-3. search needs))

@@ -18,26 +18,14 @@ abbrev μ-loop : tie.MeasureT-loop
 loop-holds : tie.Need-loop-holds Inv-loop μ-loop
 loop-holds c = (omega arith, omega arith)
 
-sub-loop : tie.Need-sub-loop Inv-loop μ-loop
-sub-loop c = search needs
-
-add-to : tie.Need-add-to Inv-loop μ-loop
-add-to c = search needs
-
 count-part-requires : tie.Need-count-part-requires Inv-loop μ-loop
 count-part-requires c κs = record { width = search needs; order = omega arith; inside = omega arith; short = omega arith }
-
-wide-requires : tie.Need-wide-requires Inv-loop μ-loop
-wide-requires c κs = search needs
 
 add-n : tie.Need-add-n Inv-loop μ-loop
 add-n c =
     let l = c .before .before .before in
     let start = l .before .before in
     omega (arith, l .loop .inv .1, c .wide .ensures, c .before .count-part .ensures, left-few (start .pre .width) (start .args .is) (start .args .regs .now), start .pre .few)
-
-loop-less : tie.Need-loop-less Inv-loop μ-loop
-loop-less c = search needs
 
 loop-again : tie.Need-loop-again Inv-loop μ-loop
 loop-again c =
@@ -46,9 +34,6 @@ loop-again c =
 
 count-part-requires-2 : tie.Need-count-part-requires-2 Inv-loop μ-loop
 count-part-requires-2 c κs = record { width = search needs; order = omega arith; inside = omega arith; short = omega arith }
-
-wide-requires-2 : tie.Need-wide-requires-2 Inv-loop μ-loop
-wide-requires-2 c κs = search needs
 
 add-result : tie.Need-add-result Inv-loop μ-loop
 add-result c =
@@ -66,18 +51,5 @@ returns c =
 pub count-spec : {M : Type 1} → statement M
 count-spec =
     tie.close
-    (tie.spec
-    Inv-loop
-    μ-loop
-    loop-holds
-    sub-loop
-    add-to
-    count-part-requires
-    wide-requires
-    add-n
-    loop-less
-    loop-again
-    count-part-requires-2
-    wide-requires-2
-    add-result
-    returns)
+    (tie.spec Inv-loop μ-loop loop-holds (λ sub-loop. search needs) (λ insert-to. search needs) count-part-requires (λ wide-requires κs. search needs)
+    add-n (λ loop-less. search needs) loop-again count-part-requires-2 (λ wide-requires-2 κs. search needs) add-result returns)

@@ -16,24 +16,6 @@ Inv-loop w regs from to is n₀ at₀ n at = (from ≤ at) × (at ≤ to) × (n 
 abbrev μ-loop : tie.MeasureT-loop
 μ-loop w regs from to is n₀ at₀ n at = to - at
 
-loop-holds : tie.Need-loop-holds Inv-loop μ-loop
-loop-holds c = search needs
-
-shared-slice-read-hits : tie.Need-shared-slice-read-hits Inv-loop μ-loop
-shared-slice-read-hits c = search needs
-
-hits-requires : tie.Need-hits-requires Inv-loop μ-loop
-hits-requires c κs = search needs
-
-add-n : tie.Need-add-n Inv-loop μ-loop
-add-n c = search needs
-
-add-at : tie.Need-add-at Inv-loop μ-loop
-add-at c = search needs
-
-loop-less : tie.Need-loop-less Inv-loop μ-loop
-loop-less c = search needs
-
 loop-again : tie.Need-loop-again Inv-loop μ-loop
 loop-again c =
     let read = c .before in
@@ -53,14 +35,5 @@ returns c =
 pub count-part-spec : {M : Type 1} → statement M
 count-part-spec =
     tie.close
-    (tie.spec
-    Inv-loop
-    μ-loop
-    loop-holds
-    shared-slice-read-hits
-    hits-requires
-    add-n
-    add-at
-    loop-less
-    loop-again
-    returns)
+    (tie.spec Inv-loop μ-loop (λ loop-holds. search needs) (λ shared-slice-read-hits. search needs) (λ hits-requires κs. search needs)
+    (λ add-n. search needs) (λ add-at. search needs) (λ loop-less. search needs) loop-again returns)

@@ -10,4 +10,6 @@ returns-2 : tie.Need-returns-2
 returns-2 c = rw (ne-eqb _ _ (c .if1 .left))
 
 pub no-token-spec : {M : Type 1} → statement M
-no-token-spec = tie.close (tie.spec returns returns-2)
+no-token-spec =
+    tie.close
+    (tie.spec returns returns-2)

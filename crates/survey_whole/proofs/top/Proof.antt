@@ -9,18 +9,10 @@ use Rattle.survey_whole.proofs.top.Tie as tie
 returns : tie.Need-returns
 returns c = rw (eq-eqb _ _ (c .if1 .taken))
 
-no-token-requires : tie.Need-no-token-requires
-no-token-requires c κs = search needs
-
-no-token-requires-2 : tie.Need-no-token-requires-2
-no-token-requires-2 c κs = search needs
-
-larger-requires : tie.Need-larger-requires
-larger-requires c κs = search needs
-
 returns-2 : tie.Need-returns-2
 returns-2 c = rw (ne-eqb _ _ (c .before .before .before .if1 .left)) (c .larger .ensures ∙ ap₂ max (c .before .before .no-token .ensures) (c .before .no-token2 .ensures))
 
 pub top-spec : {M : Type 1} → statement M
 top-spec =
-    tie.close (tie.spec returns no-token-requires no-token-requires-2 larger-requires returns-2)
+    tie.close
+    (tie.spec returns (λ no-token-requires κs. search needs) (λ no-token-requires-2 κs. search needs) (λ larger-requires κs. search needs) returns-2)

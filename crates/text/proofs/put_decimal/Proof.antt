@@ -5,23 +5,11 @@ use Rattle.text.proofs.Decimal.{digits-decimal}
 use Rattle.text.proofs.put_decimal.Statement.{statement}
 use Rattle.text.proofs.put_decimal.Tie as tie
 
-decimal-requires : tie.Need-decimal-requires
-decimal-requires c κs = search needs
-
-array-share-prefix-digits : tie.Need-array-share-prefix-digits
-array-share-prefix-digits c = search needs
-
-slice-aggregate-put : tie.Need-slice-aggregate-put
-slice-aggregate-put c = search needs
-
 put-requires : tie.Need-put-requires
 put-requires c κs =
     let d = c .before .before .decimal in
     let e = d .ensures .1 .1 ∙ digits-decimal _ _ (d .ensures .1 .0) in
     rw e (search needs)
-
-same-length : tie.Need-same-length
-same-length c = search needs
 
 returns : tie.Need-returns
 returns c =
@@ -32,10 +20,5 @@ returns c =
 pub put-decimal-spec : {M : Type 1} → statement M
 put-decimal-spec =
     tie.close
-    (tie.spec
-    decimal-requires
-    array-share-prefix-digits
-    slice-aggregate-put
-    put-requires
-    same-length
-    returns)
+    (tie.spec (λ decimal-requires κs. search needs) (λ array-share-prefix-digits. search needs) (λ slice-aggregate-put. search needs) put-requires
+    (λ same-length. search needs) returns)

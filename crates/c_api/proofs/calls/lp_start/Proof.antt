@@ -4,39 +4,13 @@ use borrow.Author.Needs.{needs}
 use Rattle.c_api.proofs.calls.lp_start.Statement.{statement}
 use Rattle.c_api.proofs.calls.lp_start.Tie as tie
 
-narrow-requires : tie.Need-narrow-requires
-narrow-requires c κs = search needs
-
-narrow-requires-2 : tie.Need-narrow-requires-2
-narrow-requires-2 c κs = search needs
-
-start-requires : tie.Need-start-requires
-start-requires c κs = search needs
-
-put-requires : tie.Need-put-requires
-put-requires c κs = search needs
-
-number-requires : tie.Need-number-requires
-number-requires c κs = search needs
-
-same-length : tie.Need-same-length
-same-length c = search needs
-
-same-length-2 : tie.Need-same-length-2
-same-length-2 c = search needs
-
 returns : tie.Need-returns
-returns c = handing _ (rw (c .before .before .before .before .before .before .before .before .before .before .before .before .narrow .ensures, c .before .before .before .before .before .before .before .before .before .before .before .narrow2 .ensures) at (c .before .before .before .before .before .before .before .before .start .ensures)) (c .before .put .ensures) (c .number .ensures)
+returns c =
+    let started = c .before .before .before .before .before .before .before .before in
+    handing _ (rw (started .before .before .before .before .narrow .ensures, started .before .before .before .narrow2 .ensures) at (started .start .ensures)) (c .before .put .ensures) (c .number .ensures)
 
 pub lp-start-spec : {M : Type 1} → statement M
 lp-start-spec =
     tie.close
-    (tie.spec
-    narrow-requires
-    narrow-requires-2
-    start-requires
-    put-requires
-    number-requires
-    same-length
-    same-length-2
-    returns)
+    (tie.spec (λ narrow-requires κs. search needs) (λ narrow-requires-2 κs. search needs) (λ start-requires κs. search needs)
+    (λ put-requires κs. search needs) (λ number-requires κs. search needs) (λ same-length. search needs) (λ same-length-2. search needs) returns)

@@ -4,35 +4,11 @@ use borrow.Author.Needs.{needs}
 use Rattle.c_api.proofs.images.lp_open.Statement.{statement}
 use Rattle.c_api.proofs.images.lp_open.Tie as tie
 
-open-requires : tie.Need-open-requires
-open-requires c κs = search needs
-
-put-requires : tie.Need-put-requires
-put-requires c κs = search needs
-
-number-requires : tie.Need-number-requires
-number-requires c κs = search needs
-
-same-length : tie.Need-same-length
-same-length c = search needs
-
-same-length-2 : tie.Need-same-length-2
-same-length-2 c = search needs
-
-same-length-3 : tie.Need-same-length-3
-same-length-3 c = search needs
-
 returns : tie.Need-returns
 returns c = handing _ (c .before .before .before .before .before .before .before .before .before .before .«open» .ensures) (c .before .put .ensures) (c .number .ensures)
 
 pub lp-open-spec : {M : Type 1} → statement M
 lp-open-spec =
     tie.close
-    (tie.spec
-    open-requires
-    put-requires
-    number-requires
-    same-length
-    same-length-2
-    same-length-3
-    returns)
+    (tie.spec (λ open-requires κs. search needs) (λ put-requires κs. search needs) (λ number-requires κs. search needs) (λ same-length. search needs)
+    (λ same-length-2. search needs) (λ same-length-3. search needs) returns)

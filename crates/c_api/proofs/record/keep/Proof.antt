@@ -7,15 +7,9 @@ use borrow.Author.Needs.{needs}
 use Rattle.c_api.proofs.record.keep.Statement.{statement}
 use Rattle.c_api.proofs.record.keep.Tie as tie
 
-narrow-requires : tie.Need-narrow-requires
-narrow-requires c κs = search needs
-
 returns : tie.Need-returns
 unfolding kept
 returns c = record { word-is = simp (← c .before .narrow .ensures, eq-eqb _ _ (c .if1 .taken)); stands = cc }
-
-wide-requires : tie.Need-wide-requires
-wide-requires c κs = search needs
 
 returns-2 : tie.Need-returns-2
 unfolding kept narrowed
@@ -25,4 +19,6 @@ returns-2 c = record {
 }
 
 pub keep-spec : {M : Type 1} → statement M
-keep-spec = tie.close (tie.spec narrow-requires returns wide-requires returns-2)
+keep-spec =
+    tie.close
+    (tie.spec (λ narrow-requires κs. search needs) returns (λ wide-requires κs. search needs) returns-2)

@@ -5,9 +5,6 @@ use borrow.Author.Needs.{needs}
 use Rattle.c_api.proofs.record.narrow.Statement.{statement}
 use Rattle.c_api.proofs.record.narrow.Tie as tie
 
-cast-result : tie.Need-cast-result
-cast-result c = search needs
-
 returns : tie.Need-returns
 unfolding narrowed
 returns c = simp (lt-ltb _ _ (c .if1 .taken))
@@ -17,4 +14,6 @@ unfolding narrowed
 returns-2 c = simp (le-ltb _ _ (c .if1 .left))
 
 pub narrow-spec : {M : Type 1} → statement M
-narrow-spec = tie.close (tie.spec cast-result returns returns-2)
+narrow-spec =
+    tie.close
+    (tie.spec (λ cast-result. search needs) returns returns-2)

@@ -7,12 +7,6 @@ use borrow.Author.Needs.{needs}
 use Rattle.packed.proofs.four.get_raw.Statement.{statement}
 use Rattle.packed.proofs.four.get_raw.Tie as tie
 
-cast-byte : tie.Need-cast-byte
-cast-byte c = search needs
-
-shared-slice-read-byte : tie.Need-shared-slice-read-byte
-shared-slice-read-byte c = search needs
-
 returns : tie.Need-returns
 returns c =
     let start = c .before .before in
@@ -26,4 +20,6 @@ returns-2 c =
     omega (arith, given (start .args .slot / 2), get-one 4 (start .args .slot) (start .args .slot / 2) 4 (now (start .args .regs)) (λ i. given i .fits) (omega arith) (omega arith))
 
 pub get-raw-spec : {M : Type 1} → statement M
-get-raw-spec = tie.close (tie.spec cast-byte shared-slice-read-byte returns returns-2)
+get-raw-spec =
+    tie.close
+    (tie.spec (λ cast-byte. search needs) (λ shared-slice-read-byte. search needs) returns returns-2)

@@ -4,7 +4,7 @@ use Prim.Native.Nat.{_*_, _-_}
 use native.Mathlib.Omega.{arith}
 use lib.ListN.{length, length-set}
 use Rattle.model.specs.Packed.{slotAt}
-use Rattle.model.proofs.Packing.{Filled, filled-all}
+use Rattle.model.proofs.packing.Packing.{Filled, filled-all}
 use Rattle.packed.proofs.Cells.{filled-pair}
 use borrow.Author.Needs.{needs}
 use Rattle.packed.proofs.four.unpack.Statement.{statement}
@@ -16,40 +16,13 @@ Inv-loop regs out₀ at₀ out at = (length out ≡ length out₀) × Filled (sl
 abbrev μ-loop : tie.MeasureT-loop
 μ-loop regs out₀ at₀ out at = length regs - at
 
-loop-holds : tie.Need-loop-holds Inv-loop μ-loop
-loop-holds c = search needs
-
-shared-slice-read-byte : tie.Need-shared-slice-read-byte Inv-loop μ-loop
-shared-slice-read-byte c = search needs
-
-mul-out : tie.Need-mul-out Inv-loop μ-loop
-mul-out c = search needs
-
-slice-write-out : tie.Need-slice-write-out Inv-loop μ-loop
-slice-write-out c = search needs
-
-mul-out-2 : tie.Need-mul-out-2 Inv-loop μ-loop
-mul-out-2 c = search needs
-
-add-out : tie.Need-add-out Inv-loop μ-loop
-add-out c = search needs
-
 slice-write-out-2 : tie.Need-slice-write-out-2 Inv-loop μ-loop
 slice-write-out-2 c = simp length-set (omega arith)
-
-add-at : tie.Need-add-at Inv-loop μ-loop
-add-at c = search needs
-
-loop-less : tie.Need-loop-less Inv-loop μ-loop
-loop-less c = search needs
 
 loop-again : tie.Need-loop-again Inv-loop μ-loop
 loop-again c =
     let loop = c .before .before .loop in
     (simp length-set (loop .inv .0), filled-pair _ (loop .out) (λ i. c .shared-slice-known .given i .fits) (loop .at) (loop .inv .1) (omega arith))
-
-same-length : tie.Need-same-length Inv-loop μ-loop
-same-length c = search needs
 
 returns : tie.Need-returns Inv-loop μ-loop
 returns c =
@@ -59,18 +32,6 @@ returns c =
 pub unpack-spec : {M : Type 1} → statement M
 unpack-spec =
     tie.close
-    (tie.spec
-    Inv-loop
-    μ-loop
-    loop-holds
-    shared-slice-read-byte
-    mul-out
-    slice-write-out
-    mul-out-2
-    add-out
-    slice-write-out-2
-    add-at
-    loop-less
-    loop-again
-    same-length
-    returns)
+    (tie.spec Inv-loop μ-loop (λ loop-holds. search needs) (λ shared-slice-read-byte. search needs) (λ mul-out. search needs)
+    (λ slice-write-out. search needs) (λ mul-out-2. search needs) (λ add-out. search needs) slice-write-out-2 (λ add-at. search needs)
+    (λ loop-less. search needs) loop-again (λ same-length. search needs) returns)

@@ -2,31 +2,10 @@
 use mathlib.Core.Path.{_∙_}
 use native.Mathlib.Omega.{arith}
 use denote.Ref.{now}
-use Rattle.model.proofs.Packing.{get-two}
+use Rattle.model.proofs.packing.Packing.{get-two}
 use borrow.Author.Needs.{needs}
 use Rattle.packed.proofs.six.get_raw.Statement.{statement}
 use Rattle.packed.proofs.six.get_raw.Tie as tie
-
-mul-bit : tie.Need-mul-bit
-mul-bit c = search needs
-
-cast-at : tie.Need-cast-at
-cast-at c = search needs
-
-shared-slice-read-window : tie.Need-shared-slice-read-window
-shared-slice-read-window c = search needs
-
-add-window : tie.Need-add-window
-add-window c = search needs
-
-shared-slice-read-window-2 : tie.Need-shared-slice-read-window-2
-shared-slice-read-window-2 c = search needs
-
-window-requires : tie.Need-window-requires
-window-requires c κs = search needs
-
-field-requires : tie.Need-field-requires
-field-requires c κs = search needs
 
 returns : tie.Need-returns
 returns c =
@@ -37,12 +16,5 @@ returns c =
 pub get-raw-spec : {M : Type 1} → statement M
 get-raw-spec =
     tie.close
-    (tie.spec
-    mul-bit
-    cast-at
-    shared-slice-read-window
-    add-window
-    shared-slice-read-window-2
-    window-requires
-    field-requires
-    returns)
+    (tie.spec (λ mul-bit. search needs) (λ cast-at. search needs) (λ shared-slice-read-window. search needs) (λ add-window. search needs)
+    (λ shared-slice-read-window-2. search needs) (λ window-requires κs. search needs) (λ field-requires κs. search needs) returns)

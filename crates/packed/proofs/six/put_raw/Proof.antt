@@ -1,49 +1,10 @@
 -- `packed::six::put_raw` meets its contract: a cell of 6 bits in a window of two bytes. Assumes nothing.
 use native.Mathlib.Omega.{arith}
 use denote.Ref.{now}
-use Rattle.model.proofs.Packing.{put-two}
+use Rattle.model.proofs.packing.Packing.{put-two}
 use borrow.Author.Needs.{needs}
 use Rattle.packed.proofs.six.put_raw.Statement.{statement}
 use Rattle.packed.proofs.six.put_raw.Tie as tie
-
-mul-bit : tie.Need-mul-bit
-mul-bit c = search needs
-
-cast-at : tie.Need-cast-at
-cast-at c = search needs
-
-slice-read-window : tie.Need-slice-read-window
-slice-read-window c = search needs
-
-add-window : tie.Need-add-window
-add-window c = search needs
-
-slice-read-window-2 : tie.Need-slice-read-window-2
-slice-read-window-2 c = search needs
-
-window-requires : tie.Need-window-requires
-window-requires c κs = search needs
-
-replaced-requires : tie.Need-replaced-requires
-replaced-requires c κs = search needs
-
-cast-regs : tie.Need-cast-regs
-cast-regs c = search needs
-
-slice-write-regs : tie.Need-slice-write-regs
-slice-write-regs c = search needs
-
-cast-regs-2 : tie.Need-cast-regs-2
-cast-regs-2 c = search needs
-
-add-regs : tie.Need-add-regs
-add-regs c = search needs
-
-slice-write-regs-2 : tie.Need-slice-write-regs-2
-slice-write-regs-2 c = search needs
-
-same-length : tie.Need-same-length
-same-length c = search needs
 
 returns : tie.Need-returns
 returns c =
@@ -54,18 +15,7 @@ returns c =
 pub put-raw-spec : {M : Type 1} → statement M
 put-raw-spec =
     tie.close
-    (tie.spec
-    mul-bit
-    cast-at
-    slice-read-window
-    add-window
-    slice-read-window-2
-    window-requires
-    replaced-requires
-    cast-regs
-    slice-write-regs
-    cast-regs-2
-    add-regs
-    slice-write-regs-2
-    same-length
-    returns)
+    (tie.spec (λ mul-bit. search needs) (λ cast-at. search needs) (λ slice-read-window. search needs) (λ add-window. search needs)
+    (λ slice-read-window-2. search needs) (λ window-requires κs. search needs) (λ replaced-requires κs. search needs) (λ cast-regs. search needs)
+    (λ slice-write-regs. search needs) (λ cast-regs-2. search needs) (λ add-regs. search needs) (λ slice-write-regs-2. search needs)
+    (λ same-length. search needs) returns)

@@ -2,16 +2,10 @@
 use native.Mathlib.Nat.{lt-of-le-of-lt, lt-of-lt-of-le}
 use native.Mathlib.Omega.{arith}
 use lib.Pow.{pow-mono, shl-lt}
-use Rattle.model.proofs.Packing.{old-le, exchange, exchange-lt}
+use Rattle.model.proofs.packing.Packing.{old-le, exchange, exchange-lt}
 use borrow.Author.Needs.{needs}
 use Rattle.packed.proofs.six.replaced.Statement.{statement}
 use Rattle.packed.proofs.six.replaced.Tie as tie
-
-field-requires : tie.Need-field-requires
-field-requires c κs = search needs
-
-cast-old : tie.Need-cast-old
-cast-old c = search needs
 
 raised-requires : tie.Need-raised-requires
 raised-requires c κs = (omega arith, rw (c .field .ensures) (lt-of-le-of-lt (old-le 6 _ _) (c .before .fits .window .fits)))
@@ -35,11 +29,4 @@ returns c = rw (c .raised2 .ensures, c .before .raised .ensures, c .before .befo
 pub replaced-spec : {M : Type 1} → statement M
 replaced-spec =
     tie.close
-    (tie.spec
-    field-requires
-    cast-old
-    raised-requires
-    sub-result
-    raised-requires-2
-    add-result
-    returns)
+    (tie.spec (λ field-requires κs. search needs) (λ cast-old. search needs) raised-requires sub-result raised-requires-2 add-result returns)

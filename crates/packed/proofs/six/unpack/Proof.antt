@@ -4,7 +4,7 @@ use Prim.Native.Nat.{_-_}
 use native.Mathlib.Omega.{arith}
 use lib.ListN.{length, length-set}
 use Rattle.model.specs.Packed.{slotAt}
-use Rattle.model.proofs.Packing.{Filled, filled-more, filled-all}
+use Rattle.model.proofs.packing.Packing.{Filled, filled-more, filled-all}
 use Rattle.packed.proofs.Rooms.{slot-6}
 use borrow.Author.Needs.{needs}
 use Rattle.packed.proofs.six.unpack.Statement.{statement}
@@ -16,31 +16,13 @@ Inv-loop regs out₀ slot₀ out slot = (length out ≡ length out₀) × Filled
 abbrev μ-loop : tie.MeasureT-loop
 μ-loop regs out₀ slot₀ out slot = length out₀ - slot
 
-loop-holds : tie.Need-loop-holds Inv-loop μ-loop
-loop-holds c = search needs
-
-cast-get-raw : tie.Need-cast-get-raw Inv-loop μ-loop
-cast-get-raw c = search needs
-
 get-raw-requires : tie.Need-get-raw-requires Inv-loop μ-loop
 get-raw-requires c κs = slot-6 (c .before .before .before .before .pre) (omega arith)
-
-slice-write-out : tie.Need-slice-write-out Inv-loop μ-loop
-slice-write-out c = search needs
-
-add-slot : tie.Need-add-slot Inv-loop μ-loop
-add-slot c = search needs
-
-loop-less : tie.Need-loop-less Inv-loop μ-loop
-loop-less c = search needs
 
 loop-again : tie.Need-loop-again Inv-loop μ-loop
 loop-again c =
     let loop = c .before .before .loop in
     (simp length-set (loop .inv .0), filled-more (slotAt 6 _) (loop .out) (loop .slot) _ _ refl (loop .inv .1) (omega arith) (c .get-raw .ensures))
-
-same-length : tie.Need-same-length Inv-loop μ-loop
-same-length c = search needs
 
 returns : tie.Need-returns Inv-loop μ-loop
 returns c =
@@ -50,15 +32,5 @@ returns c =
 pub unpack-spec : {M : Type 1} → statement M
 unpack-spec =
     tie.close
-    (tie.spec
-    Inv-loop
-    μ-loop
-    loop-holds
-    cast-get-raw
-    get-raw-requires
-    slice-write-out
-    add-slot
-    loop-less
-    loop-again
-    same-length
-    returns)
+    (tie.spec Inv-loop μ-loop (λ loop-holds. search needs) (λ cast-get-raw. search needs) get-raw-requires (λ slice-write-out. search needs)
+    (λ add-slot. search needs) (λ loop-less. search needs) loop-again (λ same-length. search needs) returns)

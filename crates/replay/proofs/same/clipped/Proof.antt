@@ -7,6 +7,4 @@ use Rattle.replay.proofs.same.clipped.Tie as tie
 pub clipped-spec : {M : Type 1} → statement M
 clipped-spec =
     tie.close
-    (tie.spec
-    (λ c. counts _ _ (search needs))
-    (λ c. counts _ _ (search needs)))
+    (tie.spec (λ c. counts _ _ (search needs)) (λ c. counts _ _ (search needs)))

@@ -1,3 +1,0 @@
-pub mod Rungs
-pub mod ByKind
-pub mod Goods

@@ -1,0 +1,4 @@
+pub mod Over
+pub mod Heading
+pub mod Turns
+pub mod Image

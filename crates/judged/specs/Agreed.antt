@@ -1,9 +1,0 @@
--- The claim: the book agrees with the Rust on every case. (In parts, since the checker bounds the steps of one computation.)
-use mathlib.Core.Path.{_≡_}
-use mathlib.Core.Bool.{true}
-use Rattle.judged.specs.Judge.{agreesAll}
-use Rattle.judged.specs.Cases.{cases0, cases1, cases2}
-
--- on every case of the three lists
-abbrev pub Agreed : Type 0
-Agreed = (agreesAll cases0 ≡ true) × ((agreesAll cases1 ≡ true) × (agreesAll cases2 ≡ true))

@@ -1,0 +1,11 @@
+pub mod Ladder
+pub mod Rungs
+pub mod Steps
+pub mod Stopping
+pub mod Starting
+pub mod Has
+pub mod Picked
+pub mod Refused
+pub mod Standing
+pub mod Doubles
+pub mod Named

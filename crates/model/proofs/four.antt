@@ -1,0 +1,12 @@
+pub mod Raised
+pub mod Tables
+pub mod Moves
+pub mod Stepping
+pub mod Stored
+pub mod Reading
+pub mod FourLaws
+pub mod FourGood
+pub mod Nibbles
+pub mod Checked
+pub mod FourTells
+pub mod FourLawful

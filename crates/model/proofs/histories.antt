@@ -1,0 +1,3 @@
+pub mod Demands
+pub mod Demand1
+pub mod Demand3

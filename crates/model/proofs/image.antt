@@ -1,0 +1,16 @@
+pub mod Opens
+pub mod Entries
+pub mod Taken
+pub mod SameSlots
+pub mod Opening
+pub mod OpenLines
+pub mod ImageFloors
+pub mod Fields
+pub mod Images
+pub mod Listing
+pub mod Writing
+pub mod WriteOpen
+pub mod Room
+pub mod Sending
+pub mod OpensAs
+pub mod OpensAlike

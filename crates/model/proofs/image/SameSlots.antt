@@ -1,0 +1,124 @@
+-- The slots that entries list and those of the nibbles 15 are one set exactly if each entry's nibble is 15 and there are as many of both. Assumes nothing.
+use mathlib.Core.Path.{_≡_, refl, sym, ap, _∙_}
+use mathlib.Core.Bool.{Bool, true, not}
+use mathlib.Core.List.{List, [], _∷_, map}
+use Prim.Native.Nat.{ℕ, suc, _^_, _<_, zero-le, suc-le-suc}
+use native.Mathlib.Nat.{mod-lt}
+use native.Mathlib.Omega.{arith}
+use lib.Dec.{eqb}
+use lib.ListN.{length, getD, length-map}
+use lib.Pow.{pow-pos}
+use borrow.Author.Tests.{eq-eqb, ne-eqb, eqb-false, not-true}
+use Rattle.model.specs.Pick.{Tells}
+use Rattle.model.specs.Coupon.{value, slot, home}
+use Rattle.model.specs.Registers.{countOf}
+use Rattle.model.specs.Table.{used}
+use Rattle.model.specs.Sketch.{cells}
+use Rattle.model.specs.Image.{homed, sketchIn, regsIn, entriesIn, auxFits}
+use Rattle.model.specs.Claims.{Listed, Entries}
+use Rattle.model.specs.declared.Sketch.{Sketch}
+use Rattle.model.proofs.order.Tells.{tells-as, tells-one, tells-eq}
+use Rattle.model.proofs.table.Counting.{marks, Marked, marks-same, marks-used, marks-all, count-marks}
+use Rattle.model.proofs.table.FirstLaws.{true-not-false}
+use Rattle.model.proofs.order.Tests.{cells-long}
+use Rattle.model.proofs.registers.Lowest.{count-none, count-some}
+use Rattle.model.proofs.image.Entries.{Apart, AuxFits, aux-tells}
+use Rattle.model.proofs.image.Taken.{map-at, taken-slot, taken-value}
+
+-- words of which none is empty are all used
+used-all : (ws : List ℕ) → ((i : ℕ) → i < length ws → getD ws i 0 ≡ 0 → ⊥) → used ws ≡ length ws
+unfolding used
+used-all [] h = refl
+used-all (w ∷ ws) h = rw (ne-eqb w 0 (h 0 (suc-le-suc zero-le))) (ap suc (used-all ws (λ i l. h (suc i) (suc-le-suc l))))
+
+-- a slot is listed, and its nibble is 15
+abbrev has : ℕ → List ℕ → ℕ → Bool
+has k es i = not (eqb (countOf i (map (home k) es)) 0)
+
+abbrev fifteen : List ℕ → ℕ → Bool
+fifteen nibbles i = eqb (getD nibbles i 0) 15
+
+has-lists : (k : ℕ) (es : List ℕ) (i : ℕ) → has k es i ≡ true → Listed k es i
+has-lists k es i h =
+    let n = eqb-false (countOf i (map (home k) es)) 0 (not-true _ h) in
+    let m = count-some i (map (home k) es) (omega arith) in
+    let d : m .0 < length es = rw length-map at (m .1) in
+    (getD es (m .0) 0, (m .0, d, refl), sym (map-at (home k) es (m .0) d) ∙ m .2)
+
+lists-has : (k : ℕ) (es : List ℕ) (i : ℕ) → Listed k es i → has k es i ≡ true
+lists-has k es i (w, m, e) =
+    let d : m .0 < length (map (home k) es) = rw length-map (m .1) in
+    ap not (ne-eqb _ 0 (λ z. count-none i (map (home k) es) z (m .0) d (map-at (home k) es (m .0) (m .1) ∙ ap (home k) (m .2) ∙ e)))
+
+-- entries of different slots, none empty: as many as slots that are listed
+module _ (k : ℕ) (es : List ℕ) (some : 0 < k) (high : (i : ℕ) → i < length es → 0 < value (getD es i 0)) (apart : Apart k es) where
+  abbrev ws : List ℕ
+  ws = map (homed k) es
+
+  at : (i : ℕ) → i < length es → getD ws i 0 ≡ homed k (getD es i 0)
+  at i d = map-at (homed k) es i d
+
+  filled : (i : ℕ) → i < length es → homed k (getD es i 0) ≡ 0 → ⊥
+  filled i d z = let v : value (homed k (getD es i 0)) ≡ 0 = rw z in omega (arith, high i d, taken-value k (getD es i 0))
+
+  marked : Marked ws (has k es) k
+  marked = record {
+    distinct = λ i j li lj hi hj e.
+        let di : i < length es = rw length-map at li in
+        let dj : j < length es = rw length-map at lj in
+        apart i j di dj (sym (taken-slot k (getD es i 0)) ∙ ap slot (sym (at i di)) ∙ e ∙ ap slot (at j dj) ∙ taken-slot k (getD es j 0));
+    from = λ x hx m.
+        let d : m .0 < length es = rw length-map at (m .1) in
+        let e : slot x ≡ home k (getD es (m .0) 0) = ap slot (sym (m .2) ∙ at (m .0) d) ∙ taken-slot k (getD es (m .0) 0) in
+        (rw e (mod-lt _ some), lists-has k es (slot x) (getD es (m .0) 0, (m .0, d, refl), sym e));
+    to = λ i l h.
+        let (w, m, e) = has-lists k es i h in
+        let d : m .0 < length ws = rw length-map (m .1) in
+        (getD ws (m .0) 0, (λ z. filled (m .0) (m .1) (sym (at (m .0) (m .1)) ∙ z)), (m .0, d, refl), ap slot (at (m .0) (m .1)) ∙ taken-slot k (getD es (m .0) 0) ∙ ap (home k) (m .2) ∙ e);
+  }
+
+  entries-marks : length es ≡ marks (has k es) k
+  entries-marks =
+      sym (length-map es (homed k)) ∙ sym (used-all ws (λ i l z. let d : i < length es = rw length-map at l in filled i d (sym (at i d) ∙ z))) ∙ marks-used ws (has k es) k marked
+
+-- ---- AUX asks what its line says
+module _ (s : Sketch) (nibbles es : List ℕ) (long : length nibbles ≡ 2 ^ s .«lg_k») where
+  abbrev k : ℕ
+  k = 2 ^ s .«lg_k»
+
+  abbrev Fits : Type 0
+  Fits = AuxFits k (s .«cur_min») (s .«aux_count») nibbles es
+
+  fifteens-marks : countOf 15 nibbles ≡ marks (fifteen nibbles) k
+  fifteens-marks = count-marks 15 nibbles ∙ ap (marks (fifteen nibbles)) long
+
+  fits-entries : Fits → Entries s nibbles es
+  fits-entries h =
+      let listed : (i : ℕ) → Listed k es i → getD nibbles i 0 ≡ 15 = λ i (w, m, e). ap (λ (j : ℕ). getD nibbles j 0) (sym (ap (home k) (m .2) ∙ e)) ∙ h .each (m .0) (m .1) .1 in
+      record {
+        high = λ i l. h .each i l .0;
+        apart = h .apart;
+        count = h .many;
+        listed = λ i l. listed i;
+        lists = λ i l e.
+            has-lists k es i
+            (marks-all (has k es) (fifteen nibbles) k (λ j d q. eq-eqb (getD nibbles j 0) 15 (listed j (has-lists k es j q)))
+            (sym (entries-marks k es (pow-pos (s .«lg_k»)) (λ j d. omega (arith, h .each j d .0)) (h .apart)) ∙ h .many ∙ sym (h .marked) ∙ fifteens-marks) i l (eq-eqb (getD nibbles i 0) 15 e));
+      }
+
+  entries-fits : Entries s nibbles es → Fits
+  entries-fits h = record {
+    each = λ i l. (h .high i l, h .listed (home k (getD es i 0)) (mod-lt _ (pow-pos (s .«lg_k»))) (getD es i 0, (i, l, refl), refl));
+    apart = h .apart;
+    many = h .count;
+    marked =
+        fifteens-marks
+        ∙ marks-same (fifteen nibbles) (has k es) k
+        (λ i l. tells-one _ _ (tells-eq (getD nibbles i 0) 15) ((λ q. h .listed i l (has-lists k es i q)), λ q e. true-not-false (lists-has k es i (h .lists i l e)) q))
+        ∙ sym (entries-marks k es (pow-pos (s .«lg_k»)) (λ j d. omega (arith, h .high j d)) (h .apart)) ∙ h .count;
+  }
+
+pub entries-tell : (l : List ℕ) → Tells (auxFits l) (Entries (sketchIn l) (cells (sketchIn l) (regsIn l)) (entriesIn l))
+entries-tell l =
+    let long = cells-long (sketchIn l) (regsIn l) in
+    tells-as _ (fits-entries (sketchIn l) (cells (sketchIn l) (regsIn l)) (entriesIn l) long) (entries-fits (sketchIn l) (cells (sketchIn l) (regsIn l)) (entriesIn l) long) (aux-tells l)

@@ -1,0 +1,15 @@
+pub mod Members
+pub mod FirstLaws
+pub mod Odd
+pub mod Search
+pub mod Refill
+pub mod Order
+pub mod Grown
+pub mod Inserted
+pub mod Inserts
+pub mod Sizes
+pub mod Counting
+pub mod Sifted
+pub mod Shape
+pub mod Made
+pub mod Area

@@ -1,0 +1,3 @@
+pub mod Play
+pub mod Cases
+pub mod Agreed
