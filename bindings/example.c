@@ -19,10 +19,27 @@ static uint32_t coupon(uint32_t slot, uint32_t value)
     return value << 26 | slot;
 }
 
+/* What an image is opened into; the place is any number before the call. */
+static uint32_t opened[5], more[AREA], scratch[AREA], place;
+static uint8_t again[K / 2];
+
+static uint32_t open_image(const uint8_t *image, size_t len)
+{
+    place = 99;
+    return lp_open(image, len, opened, again, sizeof again, more, AREA, scratch, AREA, &place);
+}
+
+/* A word of an image, lowest byte first. */
+static void put(uint8_t *at, uint32_t word)
+{
+    for (int i = 0; i < 4; i++)
+        at[i] = (uint8_t)(word >> 8 * i);
+}
+
 int main(void)
 {
     /* Kind 4 with an exception: slot 3 at 2, slot 19 at 40. */
-    static uint32_t record[5], aux[AREA], scratch[AREA], none[1];
+    static uint32_t record[5], aux[AREA], none[1];
     static uint8_t regs[K / 2], registers[K];
     const uint32_t coupons[] = { coupon(3, 2), coupon(19, 40), coupon(3, 1) };
     size_t taken = 99;
@@ -61,16 +78,46 @@ int main(void)
     expect(taken == 3 && record[4] == 3, "three are taken");
 
     /* Written, and opened into other memory. */
-    static uint8_t image[40 + K / 2 + 4 * K], again[sizeof regs];
-    static uint32_t other[5], more[AREA];
+    static uint8_t image[40 + K / 2 + 4 * K];
     size_t len = 99;
     expect(lp_write(record, regs, sizeof regs, four, 4, image, 40 + sizeof regs + 11, &len) == LP_OUT && len == 0, "a byte too few to write");
     expect(lp_write(record, regs, sizeof regs, four, 4, image, sizeof image, &len) == LP_OK, "write");
     expect(len == 40 + sizeof regs + 12 && image[0] == 10 && image[3] == LG_K && image[7] == 2, "an image of kind 4");
-    expect(lp_open(image, len, other, again, sizeof again, more, AREA, scratch, AREA) == LP_OK, "open");
-    expect(memcmp(other, record, sizeof other) == 0 && memcmp(again, regs, sizeof again) == 0, "the same sketch");
-    expect(lp_open(image, len - 1, other, again, sizeof again, more, AREA, scratch, AREA) == LP_SHORT, "a byte short is refused");
-    expect(other[0] == 0 && other[1] == 0 && other[3] == 0, "with a record of zeros");
+    expect(open_image(image, len) == LP_OK && place == 0, "open");
+    expect(memcmp(opened, record, sizeof opened) == 0 && memcmp(again, regs, sizeof again) == 0, "the same sketch");
+    expect(open_image(image, len - 1) == LP_SHORT && place == 0, "a byte short is refused");
+    expect(opened[0] == 0 && opened[1] == 0 && opened[3] == 0, "with a record of zeros");
+
+    /* The three exception words, slots 0 to 2 at 20, with one thing wrong at a time: the answer says what and the place says where. */
+    uint8_t *const words = image + 40 + sizeof regs;
+    put(words + 4, coupon(1, 15));
+    expect(open_image(image, len) == LP_OK && place == 0, "the least value of an exception");
+    put(words + 4, coupon(1, 14));
+    expect(open_image(image, len) == LP_AUX_LOW && place == 1, "a value below it in word 1");
+    put(words + 4, coupon(1, 0));
+    expect(open_image(image, len) == LP_AUX_EMPTY && place == 1, "an empty word 1");
+    put(words + 4, coupon(1, 20));
+    put(words + 8, coupon(1 + K, 20));
+    expect(open_image(image, len) == LP_AUX_TWICE && place == 2, "slot 1 again in word 2");
+    put(words + 8, coupon(K - 1, 20));
+    expect(open_image(image, len) == LP_AUX_MATCH && place == 2, "slot 2 is not listed");
+    put(words + 8, coupon(2, 20));
+    image[40 + 1] |= 15 << 4;
+    expect(open_image(image, len) == LP_AUX_MATCH && place == 3, "slot 3 is not listed");
+    image[40 + 1] &= 15;
+    expect(open_image(image, len) == LP_OK && place == 0, "nothing is wrong");
+
+    /* The second form, of eight words, passes over empty ones and counts them. */
+    image[4] = 3;
+    image[5] = 0;
+    for (int i = 7; i >= 0; i--)
+        put(words + 4 * i, i < 5 ? 0 : coupon((uint32_t)i - 5, 20));
+    len = 40 + sizeof regs + 32;
+    expect(open_image(image, len) == LP_OK && place == 0, "words 5 to 7 of the second form");
+    image[36] = 2;
+    expect(open_image(image, len) == LP_AUX_COUNT && place == 0, "three words and a count of two");
+    put(words + 28, coupon(1, 20));
+    expect(open_image(image, len) == LP_AUX_TWICE && place == 7, "slot 1 again in word 7, behind the count");
 
     return faults != 0;
 }

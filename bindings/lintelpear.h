@@ -3,8 +3,9 @@
  * A record is five words: kind (4, 6 or 8), lg_k (4 to 21), cur_min, num_at_cur_min, aux_count. Slices are a pointer and a length in
  * elements. Every call answers for every content of its record and slices: it refuses what is not in good order, by the numbers below,
  * and leaves what it was lent as it was, save scratch and what it answers with, which becomes zeros: the record of lp_start and lp_open,
- * *taken, sums, *len. Only lp_feed at LP_NO_ROOM keeps what it took. A call asks only that pointers hold as many elements as their
- * lengths say (no null, not even for a length of zero), and that what it writes does not lie within anything else that it is lent.
+ * *taken, sums, *len. Only lp_feed at LP_NO_ROOM keeps what it took, and lp_open says in *place where an image is wrong. A call asks only
+ * that pointers hold as many elements as their lengths say (no null, not even for a length of zero), and that what it writes does not lie
+ * within anything else that it is lent.
  *
  * Register bytes: k/2, 3k/4+1 or k for kinds 4, 6, 8, where k = 2^lg_k. Only kind 4 uses the exception area, of any number of words (2k
  * are always enough), and scratch, at least as many. A coupon has its value in the upper 6 bits and its slot in the lower 26. */
@@ -32,10 +33,17 @@ enum {
     LP_COUNTS = 10,
     LP_LGARR = 11,
     LP_VALUE = 12,
-    LP_AUX = 13,
+    /* 13 is not used: 21 to 25 tell apart what it stood for. */
     LP_SPARE = 14,
     LP_TALLY = 15,
-    LP_OUT = 16
+    LP_OUT = 16,
+    /* What is wrong with an image's exception words, and what lp_open's *place says of it. Positions are counted from 0, with the empty
+     * words that an image without the compact flag may have. The earliest wrong word is told; for one word, the first of these. */
+    LP_AUX_EMPTY = 21, /* a word of a compact image is empty: its position */
+    LP_AUX_TWICE = 22, /* a word's slot is that of an earlier word: its position */
+    LP_AUX_LOW = 23,   /* a word's value is below cur_min + 15: its position */
+    LP_AUX_COUNT = 24, /* no word is wrong, but there are more or fewer than the image's count: 0 */
+    LP_AUX_MATCH = 25  /* the words' slots are not those whose nibble is 15: the smallest slot that is one and not the other */
 };
 
 /* Makes an empty sketch: register bytes and, for kind 4, the exception area become zeros. Refused, the record becomes zeros. */
@@ -65,9 +73,11 @@ uint32_t lp_sums(const uint32_t record[5], const uint8_t *regs, size_t regs_len,
 uint32_t lp_write(const uint32_t record[5], const uint8_t *regs, size_t regs_len, const uint32_t *aux, size_t aux_len,
                   uint8_t *out, size_t out_len, size_t *len);
 
-/* Makes the sketch of an image. Its kind and lg_k, bytes 7 and 3, say how long the register bytes must be. Refused, the record becomes zeros. */
+/* Makes the sketch of an image. Its kind and lg_k, bytes 7 and 3, say how long the register bytes must be. Refused, the record becomes zeros.
+ * *place is written at every call: with LP_AUX_EMPTY to LP_AUX_MATCH as they say, with any other answer 0.
+ * An image of kind 4 with exceptions takes up to 20 KiB of stack, from lg_k 18 on up to 70 KiB; any other call takes less than 4 KiB. */
 uint32_t lp_open(const uint8_t *image, size_t image_len, uint32_t record[5],
-                 uint8_t *regs, size_t regs_len, uint32_t *aux, size_t aux_len, uint32_t *scratch, size_t scratch_len);
+                 uint8_t *regs, size_t regs_len, uint32_t *aux, size_t aux_len, uint32_t *scratch, size_t scratch_len, uint32_t *place);
 
 #ifdef __cplusplus
 }

@@ -3,6 +3,7 @@
 use crate::ours::Ours;
 use crate::rust::{Bare, Rust};
 use crate::side::Side;
+use oracle::examples::Random;
 
 /// So many coupons, or registers of several sketches, that no processor learns by heart what becomes of each.
 pub const MANY: usize = 1 << 18;
@@ -20,6 +21,8 @@ pub fn coupons(seed: u64, count: usize) -> Vec<u32> {
     let coupon = |x: u64| (x.leading_zeros().min(62) + 1) << 26 | x as u32 & ((1 << 26) - 1);
     (0..count).map(|_| coupon(next())).collect()
 }
+
+pub const CROWDED: &str = ", crowded";
 
 pub struct Three {
     pub kind: u8,
@@ -65,7 +68,7 @@ impl Three {
     /// Kind 4, filled, with an exception for nearly every fourth register: no hashed items give that many.
     pub fn crowded(lg_k: u8) -> Three {
         let slots = coupons(3, (1 << lg_k) / 4).into_iter().map(|coupon| coupon % (1 << 26));
-        Three::excepting(lg_k, ", crowded", slots)
+        Three::excepting(lg_k, CROWDED, slots)
     }
 
     /// A few more, at slots chosen so that all walks through the table go by steps of one, over the same places.
@@ -90,6 +93,31 @@ impl Three {
     pub fn label(&self) -> [String; 2] {
         [format!("{}{}", self.kind, self.exceptions), self.lg_k.to_string()]
     }
+}
+
+/// The Rust's image of kind 4 with its words in any order, where it has them in its table's.
+pub fn shuffled(mut image: Vec<u8>) -> Vec<u8> {
+    let words = image.split_off(40 + (1 << image[3]) / 2);
+    let mut words: Vec<&[u8]> = words.chunks(4).collect();
+    Random::new(1).shuffle(&mut words);
+    image.extend(words.concat());
+    image
+}
+
+/// The second form of kind 4 with twice as many words as registers: each slot once, by steps of this odd number, with an empty word
+/// behind each; but for the last word, which has the first one's slot. The count is 1, so that little memory has to be lent.
+pub fn crowd(lg_k: u8, step: u32) -> Vec<u8> {
+    let k = 1u32 << lg_k;
+    let mut image = vec![10, 1, 7, lg_k, lg_k + 1, 0, 0, 2];
+    image.resize(32, 0);
+    image.extend([k, 1].map(u32::to_le_bytes).concat());
+    image.resize(40 + k as usize / 2, 0);
+    for i in 0..k {
+        let behind = if i == k - 1 { 20 << 26 } else { 0 };
+        let word = 20 << 26 | i.wrapping_mul(step) % k;
+        image.extend([word, behind].map(u32::to_le_bytes).concat());
+    }
+    image
 }
 
 /// Images of the same sketch have the same bytes, save byte 5, a flag, and 8 to 15, an estimate that ours does not keep.

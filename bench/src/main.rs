@@ -42,6 +42,7 @@ fn measure() -> Result<(), String> {
     images::write(&sketches)?;
     sketches.extend([8, 10, 12, 14].map(Three::piled));
     images::open(&sketches)?;
+    images::refuse();
     feed::checks(&sketches);
     Ok(())
 }

@@ -1,6 +1,7 @@
-//! Our calls, over the C interface, in memory that is lent once and used again. A refusal ends the run: nothing here should be refused.
+//! Our calls, over the C interface, in memory that is lent once and used again. A refusal ends the run, but where it is asked for.
 
 use crate::side::Side;
+use lintelpear::Refusal;
 use lintelpear::lent::{self, Record};
 
 #[derive(Clone)]
@@ -66,5 +67,12 @@ impl Side for Ours {
     fn open(&mut self, image: &[u8]) {
         let Ours { record, regs, aux, scratch } = self;
         *record = lent::open(image, regs, aux, scratch).unwrap();
+    }
+
+    fn refuse(&mut self, image: &[u8]) {
+        let Ours { regs, aux, scratch, .. } = self;
+        let last = (image.len() - 40 - regs.len()) / 4 - 1;
+        let refusal = lent::open(image, regs, aux, scratch).unwrap_err();
+        assert_eq!(refusal, Refusal::AuxTwice(last as u32));
     }
 }

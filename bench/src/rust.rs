@@ -46,6 +46,10 @@ macro_rules! side {
             fn open(&mut self, image: &[u8]) {
                 self.0 = $krate::hll::HllSketch::deserialize(image).unwrap();
             }
+
+            fn refuse(&mut self, image: &[u8]) {
+                assert!($krate::hll::HllSketch::deserialize(image).is_err());
+            }
         }
     };
 }

@@ -13,6 +13,8 @@ pub trait Side: Clone {
     fn write(&self, out: &mut Vec<u8>);
     /// The image's sketch, in what this one had before or in its place.
     fn open(&mut self, image: &[u8]);
+    /// An image whose last exception word has a slot twice, refused.
+    fn refuse(&mut self, image: &[u8]);
 
     fn image(&self) -> Vec<u8> {
         let mut image = Vec::new();

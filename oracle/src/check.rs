@@ -2,6 +2,7 @@
 //! exception table and image after each; the image opened in three forms and fed on; merges;
 //! and images damaged at random, which the Rust may open only where document 01 is stricter.
 
+use crate::damage;
 use crate::examples::{Random, coupons, listed, spread};
 use crate::model::{Model, lists_valueless, refusal};
 use crate::{Answer, Recipe, State, hex, merge, run, union};
@@ -56,7 +57,10 @@ pub fn check(n: u64, seed: u64) -> Result<String, String> {
 
         let (list, second) = (listed(random, &state.image), spread(random, &state.image));
         for image in [state.image, list, second] {
-            damaged.compare(&damage(random, &image))?;
+            damaged.compare(&damage::anywhere(random, &image))?;
+            if kind == 4 {
+                damaged.compare(&damage::exceptions(random, &image))?;
+            }
             let mut model = Model::open(&image);
             let opened = Recipe::Open { image: image.clone(), coupons: Vec::new() };
             compare(run(&opened), &model, Since::Open)?;
@@ -137,28 +141,6 @@ impl fmt::Display for Damaged {
             only.join(", ")
         )
     }
-}
-
-/// One to three bytes changed, mostly where an image has its meaning; at times the end cut.
-pub fn damage(random: &mut Random, image: &[u8]) -> Vec<u8> {
-    let mut image = image.to_vec();
-    for _ in 0..1 + random.below(3) {
-        let at = match random.below(4) {
-            0 => random.below(8),
-            1 => 32 + random.below(8),
-            _ => 40 + random.below(image.len() as u32 - 40),
-        } as usize;
-        image[at] = match random.below(4) {
-            0 => random.below(256) as u8,
-            1 => 0,
-            2 => image[at].wrapping_add(1),
-            _ => image[at] ^ 1 << random.below(8),
-        };
-    }
-    if random.below(16) == 0 {
-        image.pop();
-    }
-    image
 }
 
 fn plain(recipe: &Recipe) -> Model {

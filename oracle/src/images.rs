@@ -167,3 +167,54 @@ pub fn bad() -> Vec<(&'static str, Vec<u8>)> {
         ("aux-tally", with(&to(&with(&one, 36, &[0]), 48), 32, &[3])),
     ]
 }
+
+/// Images whose exception words are right or wrong in one of document 02's ways: in each form a good
+/// one and those a byte or two away from it.
+pub fn exceptions() -> Vec<(&'static str, Vec<u8>)> {
+    let ones = |slot: u32| coupon(slot, if slot == 0 { 16 } else { 1 });
+    let [a, b, c, d] = [coupon(0, 15), coupon(1, 16), coupon(3, 40), coupon(11, 63)];
+    let aux = image(4, 4, vec![a, b, c, d]);
+    let list = |list: [u32; 4]| words(&aux, &list);
+    // The word of slot 5 is empty until it has a value.
+    let spread = |word: u32, last: u32| second(&aux, 3, &[0, d, 0, b, 0, a, word, last]);
+    let over = |word: u32| with(&second(&aux, 3, &[0, a, 0, b, c, 0, word, 0]), 36, &[3]);
+    let value = |slot: u32| coupon(slot, 15 + slot % 49);
+    let most = image(4, 12, (0..4095).map(value).collect());
+    let mut twice: Vec<u32> = (0..4095).flat_map(|slot| [0, value(slot)]).collect();
+    twice.extend([0, value(0)]);
+
+    vec![
+        // cur_min 1 and the least exception.
+        ("aux-16", image(4, 4, (0..16).map(ones).collect())),
+        ("list", list([a, b, c, d])),
+        ("list-value-0", list([a, b, coupon(3, 0), d])),
+        ("list-value-1", list([a, b, coupon(3, 1), d])),
+        ("list-value-14", list([a, b, coupon(3, 14), d])),
+        ("list-value-15", list([a, b, coupon(3, 15), d])),
+        ("list-slot-10", list([a, b, c, d - 1])),
+        ("list-slot-12", list([a, b, c, d + 1])),
+        ("list-slot-16", list([a, b, c, d + 5])),
+        ("list-slot-27", list([a, b, c, d + 16])),
+        ("list-nibble-5", with(&list([a, b, c, d]), 42, &[0xf0])),
+        ("list-no-nibble-3", with(&list([a, b, c, d]), 41, &[0xe0])),
+        ("list-twice-and-low", list([a, b, c, coupon(16, 14)])),
+        ("list-low-then-twice", list([a, coupon(1, 14), c, coupon(3, 63)])),
+        ("list-twice-then-empty", list([a, coupon(16, 20), 0, d])),
+        ("list-empty-then-twice", list([a, 0, coupon(16, 20), d])),
+        ("spread", spread(c, 5)),
+        ("spread-count-3", with(&spread(c, 5), 36, &[3])),
+        ("spread-count-5", with(&spread(c, 5), 36, &[5])),
+        ("spread-fewer", spread(coupon(3, 0), 5)),
+        ("spread-more", spread(c, coupon(5, 15))),
+        ("spread-value-14", spread(coupon(3, 14), 5)),
+        ("spread-slot-11", spread(coupon(11, 40), 5)),
+        ("spread-slot-2", spread(coupon(2, 40), 5)),
+        // Count 0, so that no words follow.
+        ("spread-none", with(&spread(c, 5), 36, &[0])),
+        ("over", over(d)),
+        ("over-slot-16", over(d + 5)),
+        ("over-value-14", over(coupon(11, 14))),
+        ("most-twice", second(&most, 13, &twice)),
+        ("most-nibble", with(&most, 40 + 2047, &[0xff])),
+    ]
+}

@@ -1,15 +1,15 @@
 //! The jobs that crates/merge_jobs plays and what it must print, and crates/merge's one job. Each
 //! job stands beside the answer that it is for; a job that comes to another stops the making.
 
-use crate::images::{bad, good};
-use crate::program::{Disk, NAMES, Outcome, run};
+use crate::images::{self, bad, good};
+use crate::program::{Disk, NAMES, Outcome, PLACED, run};
 use std::collections::BTreeMap;
 use std::fs;
 use std::io;
 use std::path::Path;
 
 /// A job's text, in which `N.out` is its own output and each char one byte; its answer, with the
-/// position of the file; what N.out holds before it.
+/// position of the file and the place, if there is one; what N.out holds before it.
 struct Case {
     text: String,
     answer: String,
@@ -42,9 +42,12 @@ impl Cases {
 
     /// A refused file at a position, with good files before it.
     fn refused(&mut self, name: &str, position: usize, file: &str) {
-        let before = &["three", "risen", "six"][..position - 1];
-        let ins = [before, &[file]].concat().join(" ");
-        self.add(&format!("{name} {position}"), job(4, &ins));
+        self.add(&format!("{name} {position}"), behind(position, file));
+    }
+
+    /// The same, where a place is told.
+    fn placed(&mut self, name: &str, position: usize, place: u32, file: &str) {
+        self.add(&format!("{name} {position} at {place}"), behind(position, file));
     }
 
     fn no_job(&mut self, text: &str) {
@@ -56,6 +59,12 @@ impl Cases {
 fn job(lg_k: u8, ins: &str) -> String {
     let ins: String = ins.split(' ').map(|path| format!("in={path}\n")).collect();
     format!("lgk={lg_k}\n{ins}out=N.out\n")
+}
+
+/// A good job but for the file at this position.
+fn behind(position: usize, file: &str) -> String {
+    let before = &["three", "risen", "six"][..position - 1];
+    job(4, &[before, &[file]].concat().join(" "))
 }
 
 /// The same file by a path of so many bytes.
@@ -161,12 +170,21 @@ fn refusals(cases: &mut Cases, images: &Disk) {
         ("LGARR", 2, "lgarr-255"),
         ("VALUE", 1, "value-64"),
         ("VALUE", 2, "value-nibble"),
-        ("AUX", 1, "aux-none"),
-        ("AUX", 2, "aux-more"),
-        ("AUX", 3, "aux-twice"),
-        ("AUX", 1, "aux-low"),
-        ("AUX", 2, "aux-empty"),
-        ("AUX", 4, "aux-count"),
+    ] {
+        cases.refused(name, position, file);
+    }
+    for (name, position, place, file) in [
+        // No word; no nibble.
+        ("AUX_MATCH", 1, 0, "aux-none"),
+        ("AUX_MATCH", 2, 0, "aux-more"),
+        ("AUX_TWICE", 3, 1, "aux-twice"),
+        ("AUX_LOW", 1, 0, "aux-low"),
+        ("AUX_EMPTY", 2, 0, "aux-empty"),
+        ("AUX_COUNT", 4, 0, "aux-count"),
+    ] {
+        cases.placed(name, position, place, file);
+    }
+    for (name, position, file) in [
         ("SPARE", 1, "spare-1"),
         ("SPARE", 2, "spare-128"),
         ("TALLY", 1, "tally-8"),
@@ -177,10 +195,10 @@ fn refusals(cases: &mut Cases, images: &Disk) {
         ("HEADER", 1, "header-large"),
         ("LARGE", 1, "large-counts"),
         ("COUNTS", 1, "counts-short"),
-        ("AUX", 1, "aux-tally"),
     ] {
         cases.refused(name, position, file);
     }
+    cases.placed("AUX_MATCH", 1, 0, "aux-tally");
     // The target is finer than a source, which comes after all of opening.
     cases.add("FINER 1", job(5, "three"));
     cases.add("FINER 2", job(12, "most wide-11"));
@@ -189,7 +207,50 @@ fn refusals(cases: &mut Cases, images: &Disk) {
     cases.add("TALLY 1", job(4, "tally-8 missing"));
     cases.add("MODE 64", job(4, &format!("{}mode-list", "six ".repeat(63))));
     // The output is an input, and a later input is refused: it stays as it is.
-    cases.over(images.read("aux").unwrap(), "AUX 2", job(4, "N.out aux-none"));
+    cases.over(images.read("aux").unwrap(), "AUX_MATCH 2 at 0", job(4, "N.out aux-none"));
+}
+
+/// What is wrong with exception words, and where: each answer beside one that is a byte away, which
+/// may be OK.
+fn exceptions(cases: &mut Cases) {
+    for good in ["aux-16", "list", "list-value-15", "list-slot-27", "spread"] {
+        cases.add("OK", job(4, good));
+    }
+    for (name, position, place, file) in [
+        // The compact form: a word's value, its slot; a nibble.
+        ("AUX_EMPTY", 1, 2, "list-value-0"),
+        ("AUX_LOW", 2, 2, "list-value-1"),
+        ("AUX_LOW", 3, 2, "list-value-14"),
+        ("AUX_TWICE", 2, 3, "list-slot-16"),
+        ("AUX_MATCH", 1, 10, "list-slot-10"),
+        ("AUX_MATCH", 3, 11, "list-slot-12"),
+        ("AUX_MATCH", 2, 5, "list-nibble-5"),
+        ("AUX_MATCH", 1, 3, "list-no-nibble-3"),
+        // One word with two things wrong; two words, of which the earlier answers.
+        ("AUX_TWICE", 1, 3, "list-twice-and-low"),
+        ("AUX_LOW", 2, 1, "list-low-then-twice"),
+        ("AUX_TWICE", 3, 1, "list-twice-then-empty"),
+        ("AUX_EMPTY", 4, 1, "list-empty-then-twice"),
+        // The second form, whose empty words are counted in the place: the count; an entry fewer and
+        // one more; a word's value, its slot; no words.
+        ("AUX_COUNT", 1, 0, "spread-count-3"),
+        ("AUX_COUNT", 2, 0, "spread-count-5"),
+        ("AUX_COUNT", 3, 0, "spread-fewer"),
+        ("AUX_COUNT", 1, 0, "spread-more"),
+        ("AUX_LOW", 3, 6, "spread-value-14"),
+        ("AUX_TWICE", 2, 6, "spread-slot-11"),
+        ("AUX_MATCH", 1, 2, "spread-slot-2"),
+        ("AUX_MATCH", 2, 0, "spread-none"),
+        // An entry more than the count asks for: judged before it is counted.
+        ("AUX_COUNT", 3, 0, "over"),
+        ("AUX_TWICE", 1, 6, "over-slot-16"),
+        ("AUX_LOW", 2, 6, "over-value-14"),
+        // The last of 8,192 words, the last of 4,096 slots.
+        ("AUX_TWICE", 1, 8191, "most-twice"),
+        ("AUX_MATCH", 2, 4095, "most-nibble"),
+    ] {
+        cases.placed(name, position, place, file);
+    }
 }
 
 /// The output can't be written: its folder is missing; it is a folder; it is a device, which takes
@@ -282,7 +343,7 @@ pub fn lay_out(folder: &Path, disk: &Disk) -> io::Result<()> {
 
 /// Makes the files of both crates in folders of their names; says how many jobs have each answer.
 pub fn write(folder: &Path) -> io::Result<String> {
-    let images: Vec<_> = [good(), bad()].concat();
+    let images: Vec<_> = [good(), bad(), images::exceptions()].concat();
     let images = images.into_iter().map(|(name, image)| (name.to_string(), image));
     let images = Disk(images.collect());
     let mut cases = Cases(Vec::new());
@@ -290,6 +351,7 @@ pub fn write(folder: &Path) -> io::Result<String> {
     refusals(&mut cases, &images);
     outputs(&mut cases);
     texts(&mut cases);
+    exceptions(&mut cases);
 
     let mut disk = images.clone();
     for (n, case) in cases.0.iter().enumerate() {
@@ -306,7 +368,10 @@ pub fn write(folder: &Path) -> io::Result<String> {
         let text = disk.0[&format!("{n}.job")].clone();
         let outcome = run(&mut disk, &text);
         let (no, answer) = match &outcome {
-            Outcome::Refused { no, file } => (*no, format!("{} {file}", NAMES[*no as usize])),
+            Outcome::Refused { no, place, file } if PLACED.contains(no) => {
+                (*no, format!("{} {file} at {place}", NAMES[*no as usize]))
+            }
+            Outcome::Refused { no, file, .. } => (*no, format!("{} {file}", NAMES[*no as usize])),
             Outcome::Merged { .. } => (0, "OK".into()),
         };
         assert_eq!(answer, case.answer, "job {n}: {}", case.text);

@@ -10,8 +10,11 @@ use hll::{HllSketch, HllType, HllUnion};
 // The crate's modules, at the root because they name one another from there.
 include!(concat!(env!("OUT_DIR"), "/modules.rs"));
 
+pub mod aux_cases;
+pub mod aux_fault;
 pub mod book;
 pub mod check;
+pub mod damage;
 pub mod examples;
 pub mod images;
 pub mod jobs;

@@ -1,7 +1,7 @@
 //! The oracle's driver. Without words it answers requests from standard input, line by line;
 //! `examples N SEED` prints requests with their answers, `book N SEED` the same for the proof checker,
-//! `replay N SEED` and `wrong SEED` the lists of the crate `replay`, `check N SEED` compares with
-//! the model; `jobs FOLDER` and `samples FOLDER` write what the merge program is run on.
+//! `replay N SEED`, `places N SEED` and `wrong SEED` the lists of the crate `replay`, `check N SEED`
+//! compares with the model; `jobs FOLDER` and `samples FOLDER` write what the merge program is run on.
 
 use oracle::request::Request;
 use oracle::{book, check, examples, jobs, replay, samples};
@@ -24,6 +24,7 @@ fn main() -> ExitCode {
             .for_each(|request| println!("{request}\n{}", request.answer())),
         ("book", [n, seed]) => print!("{}", book::book(*n, *seed)),
         ("replay", [n, seed]) => print!("{}", replay::replay(*n, *seed)),
+        ("places", [n, seed]) => print!("{}", replay::places(*n, *seed)),
         ("wrong", [seed]) => print!("{}", replay::wrong(*seed)),
         ("check", [n, seed]) => match check::check(*n, *seed) {
             Ok(done) => println!("{done}"),
@@ -34,8 +35,8 @@ fn main() -> ExitCode {
         },
         _ => {
             eprintln!(
-                "usage: oracle [examples N SEED | book N SEED | replay N SEED | wrong SEED | check N SEED \
-                 | jobs FOLDER | samples FOLDER]"
+                "usage: oracle [examples N SEED | book N SEED | replay N SEED | places N SEED | wrong SEED \
+                 | check N SEED | jobs FOLDER | samples FOLDER]"
             );
             return ExitCode::from(2);
         }

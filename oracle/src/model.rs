@@ -2,6 +2,8 @@
 //! for kind 4 the exception table beside them, and the strict reading of images. Written for
 //! clarity, not for speed.
 
+use crate::aux_fault::aux_fault;
+
 /// The table's size while it has few words, as an exponent of two for each lg_k.
 const BASE: [u32; 27] =
     [0, 2, 2, 2, 2, 2, 2, 3, 3, 3, 4, 4, 5, 5, 6, 7, 8, 9, 10, 11, 12, 13, 14, 15, 16, 17, 18];
@@ -15,11 +17,11 @@ pub struct Model {
     pub table: Vec<u32>,
 }
 
-fn value(word: u32) -> u8 {
+pub(crate) fn value(word: u32) -> u8 {
     (word >> 26) as u8
 }
 
-fn slot(word: u32) -> usize {
+pub(crate) fn slot(word: u32) -> usize {
     (word & 0x3ff_ffff) as usize
 }
 
@@ -50,12 +52,12 @@ fn register_bytes(kind: u8, k: usize) -> usize {
 }
 
 /// What the register bytes say of a slot: a nibble, six bits or a byte.
-fn packed(kind: u8, bytes: &[u8], at: usize) -> u8 {
+pub(crate) fn packed(kind: u8, bytes: &[u8], at: usize) -> u8 {
     let bit = |at: usize| bytes[at / 8] >> (at % 8) & 1;
     (0..kind as usize).map(|i| bit(kind as usize * at + i) << i).sum()
 }
 
-fn number(image: &[u8], at: usize) -> u32 {
+pub(crate) fn number(image: &[u8], at: usize) -> u32 {
     u32::from_le_bytes(image[at..at + 4].try_into().unwrap())
 }
 
@@ -68,37 +70,38 @@ fn listed_count(image: &[u8]) -> usize {
 }
 
 /// The exception words an image lists, empty ones included.
-fn listed(image: &[u8]) -> impl Iterator<Item = u32> {
+pub(crate) fn listed(image: &[u8]) -> impl Iterator<Item = u32> {
     let start = 40 + register_bytes(kind(image[7]), 1 << image[3]);
     (0..listed_count(image)).map(move |i| number(image, start + 4 * i))
 }
 
-/// The number document 01 gives an image, 0 if it opens. SIZE and NO_ROOM are left out: they
-/// speak of lent memory, which the Rust does not have.
-pub fn refusal(image: &[u8]) -> u8 {
+/// The number document 01 gives an image, 0 if it opens, and the place that document 02 gives with
+/// 21 to 25, 0 with any other. SIZE and NO_ROOM are left out: they speak of lent memory, which the
+/// Rust does not have.
+pub fn said(image: &[u8]) -> (u8, u32) {
     if image.len() < 40 {
-        return 7;
+        return (7, 0);
     }
     if image[..3] != [10, 1, 7] {
-        return 8;
+        return (8, 0);
     }
     if ![2, 6, 10].contains(&image[7]) {
-        return 9;
+        return (9, 0);
     }
     if !(4..=21).contains(&image[3]) {
-        return 2;
+        return (2, 0);
     }
     let (kind, k, cur_min) = (kind(image[7]), 1usize << image[3], image[6]);
     let (num, count) = (number(image, 32) as usize, number(image, 36) as usize);
     let second = image[5] & 8 == 0;
     if num > k || count > k || cur_min > 63 || kind != 4 && (cur_min, count) != (0, 0) {
-        return 10;
+        return (10, 0);
     }
     if kind == 4 && second && count != 0 && image[4] > 22 {
-        return 11;
+        return (11, 0);
     }
     if image.len() < 40 + register_bytes(kind, k) + 4 * listed_count(image) {
-        return 7;
+        return (7, 0);
     }
     let bytes = &image[40..];
     let registers: Vec<u8> = (0..k).map(|at| packed(kind, bytes, at)).collect();
@@ -107,26 +110,25 @@ pub fn refusal(image: &[u8]) -> u8 {
         _ => *register > 63,
     };
     if registers.iter().any(over) {
-        return 12;
+        return (12, 0);
     }
     if kind == 4 {
-        let words: Vec<u32> = listed(image).filter(|w| !second || value(*w) != 0).collect();
-        let mut slots: Vec<usize> = words.iter().map(|word| slot(*word) % k).collect();
-        slots.sort();
-        let tokens: Vec<usize> = (0..k).filter(|at| registers[*at] == 15).collect();
-        // Equal to the tokens' list, the slots are also distinct.
-        let low = words.iter().any(|word| value(*word) < cur_min + 15);
-        if low || words.len() != count || slots != tokens {
-            return 13;
+        if let Some(fault) = aux_fault(image) {
+            return fault;
         }
     }
     if kind == 6 && bytes[register_bytes(6, k) - 1] != 0 {
-        return 14;
+        return (14, 0);
     }
     if num != registers.iter().filter(|register| **register == 0).count() || kind == 4 && num == 0 {
-        return 15;
+        return (15, 0);
     }
-    0
+    (0, 0)
+}
+
+/// The number alone.
+pub fn refusal(image: &[u8]) -> u8 {
+    said(image).0
 }
 
 /// Whether a second-form image lists a word with a slot but no value: empty for document 01,

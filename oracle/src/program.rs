@@ -1,18 +1,45 @@
-//! The merge program as document 01 tells it, on files in memory: what it prints for a job, and
-//! what it leaves. Merged registers and images are the Rust's and the refusals of opening are the
+//! The merge program as documents 01 and 02 tell it, on files in memory: what it prints for a job,
+//! and what it leaves. Merged registers and images are the Rust's and the refusals of opening are the
 //! model's; only what the program adds to them is stated here.
 
-use crate::model::{Model, lists_valueless, refusal};
+use crate::model::{Model, lists_valueless, said};
 use crate::{Answer, Recipe, State, merge};
 use std::collections::BTreeMap;
 use std::fmt;
-use std::ops::Range;
+use std::ops::{Range, RangeInclusive};
 
-/// Document 01's names, each at its number.
-pub const NAMES: [&str; 21] = [
-    "OK", "KIND", "LGK", "SIZE", "DAMAGED", "FINER", "NO_ROOM", "SHORT", "HEADER", "MODE",
-    "COUNTS", "LGARR", "VALUE", "AUX", "SPARE", "TALLY", "OUT", "LONG", "JOB", "IO", "LARGE",
+/// The names of documents 01 and 02, each at its number; 13 is not used.
+pub const NAMES: [&str; 26] = [
+    "OK",
+    "KIND",
+    "LGK",
+    "SIZE",
+    "DAMAGED",
+    "FINER",
+    "NO_ROOM",
+    "SHORT",
+    "HEADER",
+    "MODE",
+    "COUNTS",
+    "LGARR",
+    "VALUE",
+    "",
+    "SPARE",
+    "TALLY",
+    "OUT",
+    "LONG",
+    "JOB",
+    "IO",
+    "LARGE",
+    "AUX_EMPTY",
+    "AUX_TWICE",
+    "AUX_LOW",
+    "AUX_COUNT",
+    "AUX_MATCH",
 ];
+
+/// The answers that come with a place.
+pub const PLACED: RangeInclusive<u8> = 21..=25;
 
 const LGK: u8 = 2;
 const FINER: u8 = 5;
@@ -85,44 +112,44 @@ fn path(line: &[u8], key: &[u8]) -> Option<String> {
     fit.then(|| String::from_utf8(path.to_vec()).unwrap())
 }
 
-/// A file's number, 0 if it is merged: IO, LONG, what bytes 0 to 39 are refused for, LARGE, the
-/// rest of opening, FINER.
-fn refused(file: Option<&[u8]>, target: u8) -> u8 {
-    let Some(image) = file else { return IO };
+/// A file's number and place, 0 if it is merged: IO, LONG, what bytes 0 to 39 are refused for,
+/// LARGE, the rest of opening, FINER.
+fn refused(file: Option<&[u8]>, target: u8) -> (u8, u32) {
+    let Some(image) = file else { return (IO, 0) };
     if image.len() > 40_000 {
-        return LONG;
+        return (LONG, 0);
     }
-    let opening = refusal(image);
-    if image.len() < 40 || [HEADER, MODE, LGK].contains(&opening) {
+    let opening = said(image);
+    if image.len() < 40 || [HEADER, MODE, LGK].contains(&opening.0) {
         return opening;
     }
     match (image[3], opening) {
-        (13.., _) => LARGE,
-        (lg_k, 0) if lg_k < target => FINER,
+        (13.., _) => (LARGE, 0),
+        (lg_k, (0, _)) if lg_k < target => (FINER, 0),
         (_, opening) => opening,
     }
 }
 
 /// What a run comes to; a refusal's file is counted from 1 and is 0 for job and output.
 pub enum Outcome {
-    Refused { no: u8, file: usize },
+    Refused { no: u8, place: u32, file: usize },
     Merged { files: usize, state: State },
 }
 
 pub fn run(disk: &mut Disk, text: &[u8]) -> Outcome {
-    let Some(job) = job(text) else { return Outcome::Refused { no: JOB, file: 0 } };
+    let Some(job) = job(text) else { return Outcome::Refused { no: JOB, place: 0, file: 0 } };
     let mut sources = Vec::new();
     for path in &job.ins {
         let file = disk.read(path);
-        let no = refused(file, job.lg_k);
+        let (no, place) = refused(file, job.lg_k);
         if no != 0 {
-            return Outcome::Refused { no, file: sources.len() + 1 };
+            return Outcome::Refused { no, place, file: sources.len() + 1 };
         }
         sources.push(source(file.unwrap()));
     }
     let state = merged(job.lg_k, &sources);
     if !disk.write(&job.out, &state.image) {
-        return Outcome::Refused { no: IO, file: 0 };
+        return Outcome::Refused { no: IO, place: 0, file: 0 };
     }
     Outcome::Merged { files: sources.len(), state }
 }
@@ -159,8 +186,12 @@ fn sums(registers: &[u8]) -> [u64; 2] {
 impl fmt::Display for Outcome {
     fn fmt(&self, f: &mut fmt::Formatter<'_>) -> fmt::Result {
         match self {
-            Outcome::Refused { no, file } => {
-                writeln!(f, "answer={}\ncode={no}\nfile={file}", NAMES[*no as usize])
+            Outcome::Refused { no, place, file } => {
+                writeln!(f, "answer={}\ncode={no}\nfile={file}", NAMES[*no as usize])?;
+                if PLACED.contains(no) {
+                    writeln!(f, "place={place}")?;
+                }
+                Ok(())
             }
             Outcome::Merged { files, state } => {
                 let zeros = state.registers.iter().filter(|register| **register == 0).count();

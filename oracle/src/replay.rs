@@ -1,9 +1,11 @@
 //! The lists of the crate `replay`: histories, images and merges, each line with what the Rust
-//! answers. crates/replay/src/main.rt says what a line means and which image bytes are free.
+//! answers; and images with document 02's numbers and places, which the Rust does not have.
+//! crates/replay/src/main.rt says what a line means and which image bytes are free.
 
-use crate::check::damage;
+use crate::aux_cases;
+use crate::damage;
 use crate::examples::{Random, coupons, listed, spread};
-use crate::model::refusal;
+use crate::model::{refusal, said};
 use crate::{Answer, Recipe, State, hex, merge, run};
 
 /// What the replaying program has memory for.
@@ -27,6 +29,10 @@ impl List {
             Recipe::Open { image, .. } => self.bytes('O', image),
             Recipe::FromList { .. } => unreachable!(),
         }
+    }
+
+    fn answer(&mut self, image: &[u8], (number, place): (u8, u32)) {
+        self.bytes('A', &[&[number], &place.to_be_bytes()[..], image].concat());
     }
 
     /// All that a sketch shows; `image` is I or J.
@@ -142,7 +148,7 @@ fn reopened(random: &mut Random, image: Vec<u8>) -> Vec<u8> {
 /// Damaged images that both sides refuse: where document 01 is stricter there is nothing to compare.
 fn refused(random: &mut Random, list: &mut List, image: &[u8]) {
     for _ in 0..3 {
-        let mut image = damage(random, image);
+        let mut image = damage::anywhere(random, image);
         if random.below(4) == 0 {
             image.truncate(random.below(image.len() as u32) as usize);
         }
@@ -175,6 +181,34 @@ fn merged(random: &mut Random, list: &mut List, source: Recipe, lg_k: u8) {
     }
 }
 
+/// The answers about exception words, each with its place, and images beside them that open: the
+/// cases worked out by hand, then N histories whose image, in both forms, is damaged at random.
+pub fn places(n: u64, seed: u64) -> String {
+    let random = &mut Random::new(seed);
+    let mut list = List(String::new());
+    for (what, image, wanted) in aux_cases::small() {
+        assert_eq!(said(&image), wanted, "{what}");
+        list.answer(&image, wanted);
+    }
+    for i in 0..n {
+        let lg_k = if i % 10 == 0 { LARGEST } else { 4 + random.below(4) as u8 };
+        let coupons = batches(random, lg_k).concat();
+        let Answer::Ok(state) = run(&Recipe::History { kind: 4, lg_k, coupons }) else {
+            unreachable!()
+        };
+        for form in [listed(random, &state.image), spread(random, &state.image)] {
+            for _ in 0..4 {
+                let image = damage::exceptions(random, &form);
+                let answer = said(&image);
+                if answer.0 == 0 || answer.0 > 20 {
+                    list.answer(&image, answer);
+                }
+            }
+        }
+    }
+    list.0
+}
+
 /// A short list in which one thing is wrong on each line but those that make the sketch, and but
 /// the free bytes of an image: each answer of the Rust's with each of its bytes changed in turn,
 /// answers of another length, lines that cannot be read.
@@ -192,6 +226,8 @@ pub fn wrong(seed: u64) -> String {
     list.bytes('O', &image[..image.len() - 1]);
     let (_, state) = list.fed(Recipe::Open { image, coupons: Vec::new() }, vec![some(random, 4)]);
     each_changed(&mut list, 'J', &state.image);
+    answers_changed(&mut list, 22);
+    answers_changed(&mut list, 0);
     list.0 += UNREAD;
     list.shown(Answer::Ok(state), 'J');
     // The last line is cut.
@@ -202,6 +238,17 @@ pub fn wrong(seed: u64) -> String {
 /// No such kind, no such lg_k, a byte missing; three bytes for a coupon; a target of kind 4;
 /// bytes where there are none; no such letter; nothing; half a byte; no digit; a space.
 const UNREAD: &str = "S0504\nS0403\nS04\nF040000\nM\nM00\nP00\nQ00\nr00\n\nR0\nR0G\nR 00\n";
+
+/// The first case with this number: the right line, its number and each byte of its place changed,
+/// and what is too short to have them.
+fn answers_changed(list: &mut List, number: u8) {
+    let cases = aux_cases::small();
+    let (_, image, (_, place)) = cases.iter().find(|case| case.2.0 == number).unwrap();
+    list.answer(image, (number, *place));
+    list.answer(image, (number ^ 1, *place));
+    (0..4).for_each(|byte| list.answer(image, (number, place ^ 1 << (8 * byte))));
+    list.bytes('A', &[number, 0, 0, 0]);
+}
 
 /// The right line, each byte of it changed, one byte less, one more.
 fn each_changed(list: &mut List, letter: char, bytes: &[u8]) {

@@ -32,8 +32,9 @@ impl Sketch {
     ///
     /// Any bytes may be handed in. The answer is the first of these that applies, as the table of refusals has them: [`Refusal::Short`]
     /// for under 40 bytes, [`Header`](Refusal::Header), [`Mode`](Refusal::Mode), [`LgK`](Refusal::LgK), [`Counts`](Refusal::Counts),
-    /// [`LgArr`](Refusal::LgArr), [`Short`](Refusal::Short), [`Value`](Refusal::Value), [`Aux`](Refusal::Aux),
-    /// [`Spare`](Refusal::Spare), [`Tally`](Refusal::Tally).
+    /// [`LgArr`](Refusal::LgArr), [`Short`](Refusal::Short), [`Value`](Refusal::Value); for the earliest wrong exception word
+    /// [`AuxEmpty`](Refusal::AuxEmpty), [`AuxTwice`](Refusal::AuxTwice), [`AuxLow`](Refusal::AuxLow); [`AuxCount`](Refusal::AuxCount),
+    /// [`AuxMatch`](Refusal::AuxMatch), [`Spare`](Refusal::Spare), [`Tally`](Refusal::Tally).
     ///
     /// Bytes that are no whole image never take more memory than their registers would, at most 2 MiB; a whole one of kind 4 has room
     /// made for its exceptions, at most 2k words and as much scratch. An image made to do so can list exceptions that pile up in their

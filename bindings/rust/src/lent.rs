@@ -6,7 +6,7 @@
 //! always enough), and scratch, at least as many. A coupon has its value in the upper 6 bits and its slot in the lower 26.
 
 use crate::raw;
-use crate::refusal::{Refusal, answer};
+use crate::refusal::{Refusal, answer, answer_at};
 
 /// What feed gives back: how many coupons were taken, and why not all of them.
 #[derive(Clone, Copy, Debug, PartialEq, Eq)]
@@ -37,6 +37,7 @@ pub fn open(
     scratch: &mut [u32],
 ) -> Result<Record, Refusal> {
     let mut record = Record::default();
+    let mut place = 0;
     let number = unsafe {
         raw::lp_open(
             image.as_ptr(),
@@ -48,9 +49,10 @@ pub fn open(
             aux.len(),
             scratch.as_mut_ptr(),
             scratch.len(),
+            &mut place,
         )
     };
-    answer(number).map(|()| record)
+    answer_at(number, place).map(|()| record)
 }
 
 impl Record {

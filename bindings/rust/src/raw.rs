@@ -72,5 +72,6 @@ unsafe extern "C" {
         aux_len: usize,
         scratch: *mut u32,
         scratch_len: usize,
+        place: *mut u32,
     ) -> u32;
 }

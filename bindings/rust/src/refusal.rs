@@ -4,11 +4,14 @@ use std::error::Error;
 use std::fmt;
 
 /// Why a call refused. `SIZE`, `DAMAGED`, `NO_ROOM` and `OUT` speak of lent memory: a [`Sketch`](crate::Sketch) never answers them.
+///
+/// Five answers tell what is wrong with an image's exception words, and four of them where: the position of a word is counted from 0, with the
+/// empty words that an image without the compact flag may have. The earliest wrong word is told; for one word, the first of `AUX_EMPTY`,
+/// `AUX_TWICE`, `AUX_LOW`.
 #[derive(Clone, Copy, Debug, PartialEq, Eq, Hash)]
-#[repr(u32)]
 pub enum Refusal {
     /// `KIND`: a kind that is not 4, 6 or 8, or a merge target that is not of kind 8.
-    Kind = 1,
+    Kind,
     /// `LGK`: lg_k outside 4 to 21.
     LgK,
     /// `SIZE`: a lent buffer of another length than the sketch has.
@@ -31,39 +34,84 @@ pub enum Refusal {
     LgArr,
     /// `VALUE`: an image with a register over 63.
     Value,
-    /// `AUX`: an image whose exceptions do not belong to its registers.
-    Aux,
     /// `SPARE`: an image of kind 6 whose last register byte is not 0.
     Spare,
     /// `TALLY`: an image whose num_at_cur_min is not the number of registers there.
     Tally,
     /// `OUT`: a lent buffer that is shorter than the image.
     Out,
+    /// `AUX_EMPTY`: a compact image with an exception word that is empty, at this position.
+    AuxEmpty(u32),
+    /// `AUX_TWICE`: an image with an exception word whose slot an earlier word has; the later word's position.
+    AuxTwice(u32),
+    /// `AUX_LOW`: an image with an exception word whose value is below cur_min + 15, at this position.
+    AuxLow(u32),
+    /// `AUX_COUNT`: an image that lists more or fewer exceptions than its count.
+    AuxCount,
+    /// `AUX_MATCH`: an image that lists other slots than those whose nibble is 15; the smallest slot that is one and not the other.
+    AuxMatch(u32),
 }
 
 impl Refusal {
-    const ALL: [Refusal; 16] = [
-        Refusal::Kind,
-        Refusal::LgK,
-        Refusal::Size,
-        Refusal::Damaged,
-        Refusal::Finer,
-        Refusal::NoRoom,
-        Refusal::Short,
-        Refusal::Header,
-        Refusal::Mode,
-        Refusal::Counts,
-        Refusal::LgArr,
-        Refusal::Value,
-        Refusal::Aux,
-        Refusal::Spare,
-        Refusal::Tally,
-        Refusal::Out,
-    ];
+    /// Each of them, those that carry something with this.
+    fn all(place: u32) -> [Refusal; 20] {
+        [
+            Refusal::Kind,
+            Refusal::LgK,
+            Refusal::Size,
+            Refusal::Damaged,
+            Refusal::Finer,
+            Refusal::NoRoom,
+            Refusal::Short,
+            Refusal::Header,
+            Refusal::Mode,
+            Refusal::Counts,
+            Refusal::LgArr,
+            Refusal::Value,
+            Refusal::Spare,
+            Refusal::Tally,
+            Refusal::Out,
+            Refusal::AuxEmpty(place),
+            Refusal::AuxTwice(place),
+            Refusal::AuxLow(place),
+            Refusal::AuxCount,
+            Refusal::AuxMatch(place),
+        ]
+    }
 
-    /// The number in the table of refusals, from 1 to 16.
+    /// The number in the table of refusals: 1 to 12, 14 to 16, 21 to 25.
     pub fn number(self) -> u32 {
-        self as u32
+        match self {
+            Refusal::Kind => 1,
+            Refusal::LgK => 2,
+            Refusal::Size => 3,
+            Refusal::Damaged => 4,
+            Refusal::Finer => 5,
+            Refusal::NoRoom => 6,
+            Refusal::Short => 7,
+            Refusal::Header => 8,
+            Refusal::Mode => 9,
+            Refusal::Counts => 10,
+            Refusal::LgArr => 11,
+            Refusal::Value => 12,
+            Refusal::Spare => 14,
+            Refusal::Tally => 15,
+            Refusal::Out => 16,
+            Refusal::AuxEmpty(_) => 21,
+            Refusal::AuxTwice(_) => 22,
+            Refusal::AuxLow(_) => 23,
+            Refusal::AuxCount => 24,
+            Refusal::AuxMatch(_) => 25,
+        }
+    }
+
+    /// What the answer carries: a word's position, or a slot. 0 where it carries nothing.
+    pub fn place(self) -> u32 {
+        match self {
+            Refusal::AuxEmpty(word) | Refusal::AuxTwice(word) | Refusal::AuxLow(word) => word,
+            Refusal::AuxMatch(slot) => slot,
+            _ => 0,
+        }
     }
 }
 
@@ -82,11 +130,22 @@ impl fmt::Display for Refusal {
             Refusal::Counts => "the image's cur_min or one of its counts is out of range",
             Refusal::LgArr => "the image's lg_arr is over 22",
             Refusal::Value => "the image has a register over 63",
-            Refusal::Aux => "the image's exceptions do not belong to its registers",
             Refusal::Spare => "the image's spare byte is not 0",
             Refusal::Tally => "the image's num_at_cur_min is not the number counted",
             Refusal::Out => "the buffer is shorter than the image",
-        })
+            Refusal::AuxEmpty(_) => "an exception word of the image is empty",
+            Refusal::AuxTwice(_) => "an exception word of the image has the slot of an earlier one",
+            Refusal::AuxLow(_) => "an exception word of the image has a value below cur_min + 15",
+            Refusal::AuxCount => "the image's exception words are more or fewer than its count",
+            Refusal::AuxMatch(_) => "the image's exception words are not those of its registers",
+        })?;
+        match self {
+            Refusal::AuxEmpty(word) | Refusal::AuxTwice(word) | Refusal::AuxLow(word) => {
+                write!(f, ": word {word}, from 0")
+            }
+            Refusal::AuxMatch(slot) => write!(f, ": slot {slot}"),
+            _ => Ok(()),
+        }
     }
 }
 
@@ -94,11 +153,16 @@ impl Error for Refusal {}
 
 /// A call's number as a result.
 pub(crate) fn answer(number: u32) -> Result<(), Refusal> {
-    match number {
-        0 => Ok(()),
-        // The calls are proved to answer no other number.
-        _ => Err(Refusal::ALL[number as usize - 1]),
+    answer_at(number, 0)
+}
+
+/// The same with a place, for the numbers that have one.
+pub(crate) fn answer_at(number: u32, place: u32) -> Result<(), Refusal> {
+    if number == 0 {
+        return Ok(());
     }
+    let refusal = Refusal::all(place).into_iter().find(|refusal| refusal.number() == number);
+    Err(refusal.expect("the calls are proved to answer no other number"))
 }
 
 #[cfg(test)]
@@ -106,10 +170,12 @@ mod tests {
     use super::*;
 
     #[test]
-    fn each_number_is_its_own() {
-        assert_eq!(answer(0), Ok(()));
-        for number in 1..=16 {
-            assert_eq!(answer(number).unwrap_err().number(), number);
+    fn each_number_and_place_is_its_own() {
+        assert_eq!(answer_at(0, 7), Ok(()));
+        for number in (1..=12).chain(14..=16).chain(21..=25) {
+            let refusal = answer_at(number, 7).unwrap_err();
+            assert_eq!(refusal.number(), number);
+            assert_eq!(refusal.place(), if [21, 22, 23, 25].contains(&number) { 7 } else { 0 });
         }
     }
 }

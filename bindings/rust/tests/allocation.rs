@@ -62,6 +62,6 @@ fn no_more_than_lg_k_justifies() {
         let mut image = vec![0; 44 + k / 2];
         image[..8].copy_from_slice(&[10, 1, 7, lg_k, 0, 0, 0, 2]);
         image[36..40].copy_from_slice(&(k as u32).to_le_bytes());
-        assert!(most(&image, Refusal::Aux) <= 17 * k, "lg_k {lg_k}");
+        assert!(most(&image, Refusal::AuxCount) <= 17 * k, "lg_k {lg_k}");
     }
 }

@@ -76,12 +76,12 @@ module _ {lgk : ℕ} {a₀ : State} {aux₀ cs : List ℕ} {i : ℕ} {s : Sketch
           going = f .going ∙ ran-went State (stepOf 4 lgk (length aux₀)) (f .state) (q .0) cs i l (sym step-is ∙ q .1);
         }
 
-    pub feeding-stop : took ≡ false → out 6 s′ i regs′ aux′ ≡ fedOut lgk aux₀ (ran (stepOf 4 lgk (length aux₀)) a₀ cs)
+    pub feeding-stop : took ≡ false → out 6 0 s′ i regs′ aux′ ≡ fedOut lgk aux₀ (ran (stepOf 4 lgk (length aux₀)) a₀ cs)
     feeding-stop e =
         let q = stepped-stopped (step4 (baseFor (s .«lg_k»)) (length aux) (stateOf s regs aux) (getD cs i 0)) took s regs aux s′ regs′ aux′ st e in
-        ap (λ (x : Sketch). out 6 x i regs′ aux′) (q .1 .sketch-is) ∙ ap₂ (λ (x y : List ℕ). out 6 s i x y) (q .1 .regs-are) (q .1 .aux-is)
+        ap (λ (x : Sketch). out 6 0 x i regs′ aux′) (q .1 .sketch-is) ∙ ap₂ (λ (x y : List ℕ). out 6 0 s i x y) (q .1 .regs-are) (q .1 .aux-is)
         ∙ rests-kept (f .rests) (f .bytes) 6 i aux₀ (f .wide)
         ∙ ap (fedOut lgk aux₀) (sym (f .going ∙ ran-stop State (stepOf 4 lgk (length aux₀)) (f .state) cs i l (sym step-is ∙ q .0)))
 
-  pub feeding-end : i ≡ length cs → out 0 s i regs aux ≡ fedOut lgk aux₀ (ran (stepOf 4 lgk (length aux₀)) a₀ cs)
+  pub feeding-end : i ≡ length cs → out 0 0 s i regs aux ≡ fedOut lgk aux₀ (ran (stepOf 4 lgk (length aux₀)) a₀ cs)
   feeding-end e = rests-kept (f .rests) (f .bytes) 0 i aux₀ (f .wide) ∙ ap (fedOut lgk aux₀) (sym (f .going ∙ ran-end State (stepOf 4 lgk (length aux₀)) (f .state) cs i e))

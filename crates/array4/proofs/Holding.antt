@@ -113,11 +113,11 @@ good-bytes s regs aux four g =
 
 -- record, bytes and area at rest are what is kept of the state
 pub rests-kept : {lgk : ℕ} {b : State} {s : Sketch} {regs aux : List ℕ} → Rests lgk b s regs aux → Bytes regs → (n count : ℕ) (aux₀ : List ℕ) → length aux ≡ length aux₀
-    → out n s count regs aux ≡ keptOut n 4 lgk count b aux₀
+    → out n 0 s count regs aux ≡ keptOut n 4 lgk count b aux₀
 unfolding keptOut areaOf
 rests-kept {lgk} {b} {s} {regs} {aux} r by n count aux₀ e =
-    ap₂ (λ (x : Sketch) (y : List ℕ). out n x count y aux) (sketch-is ∙ sym (four-record 4 lgk (b .regs) refl)) (bytes-are ∙ sym (four-stored 4 lgk (b .regs) refl))
-    ∙ ap (λ (y : List ℕ). out n (recordOf 4 lgk (b .regs)) count (stored 4 lgk (b .regs)) y) (r .holds .area ∙ ap (λ (n : ℕ). laid n (b .table)) e)
+    ap₂ (λ (x : Sketch) (y : List ℕ). out n 0 x count y aux) (sketch-is ∙ sym (four-record 4 lgk (b .regs) refl)) (bytes-are ∙ sym (four-stored 4 lgk (b .regs) refl))
+    ∙ ap (λ (y : List ℕ). out n 0 (recordOf 4 lgk (b .regs)) count (stored 4 lgk (b .regs)) y) (r .holds .area ∙ ap (λ (n : ℕ). laid n (b .table)) e)
   where
     bytes-are : regs ≡ storedAt (least (b .regs)) (b .regs)
     bytes-are =

@@ -266,7 +266,7 @@ pub fn feed(
     coupons: &[u32],
 ) -> Fed4
     requires { ⌜ Feedable s (now regs) (now aux) (now scratch) ⌝ }
-    ensures { λ r. ⌜ (let q = ran (stepOf 4 (s .«lg_k») (length (now (aux .entry)))) (stateOf s (now (regs .entry)) (now (aux .entry))) (now (coupons .entry)) in out (r .no) (r .sketch) (r .taken) (now (regs .exit)) (now (aux .exit)) ≡ keptOut (q .no) 4 (s .«lg_k») (q .count) (q .state) (now (aux .entry))) ⌝ }
+    ensures { λ r. ⌜ (let q = ran (stepOf 4 (s .«lg_k») (length (now (aux .entry)))) (stateOf s (now (regs .entry)) (now (aux .entry))) (now (coupons .entry)) in out (r .no) 0 (r .sketch) (r .taken) (now (regs .exit)) (now (aux .exit)) ≡ keptOut (q .no) 4 (s .«lg_k») (q .count) (q .state) (now (aux .entry))) ⌝ }
 {
     let mut fed = s;
     let mut i = 0;

@@ -1,5 +1,5 @@
--- From a call's own promise, what the put record is and what the number is, to the promise over words.
-use mathlib.Core.Path.{_≡_, ap}
+-- From a call's own promise, what the put record is and what number and place are, to the promise over words.
+use mathlib.Core.Path.{_≡_, ap, sym, _∙_}
 use mathlib.Core.List.{List}
 use Prim.Native.Nat.{ℕ}
 use Rattle.model.specs.Calls.{Out, out}
@@ -7,6 +7,11 @@ use Rattle.model.specs.declared.Sketch.{Sketch}
 use Rattle.c_api.specs.Words.{Put}
 use Rattle.c_api.specs.Worded.{worded, handed}
 
-pub handing : {n m k : ℕ} {s : Sketch} {r a w′ : List ℕ} {q : Out} (w : List ℕ) → out n s k r a ≡ q → Put w s w′ → m ≡ n → worded m w′ k r a ≡ handed w q
-handing {n} {m} {k} {s} {r} {a} {w′} {q} w e p o =
-    let h : handed w (out n s k r a) ≡ handed w q = ap (handed w) e in cc
+module _ {n m x k : ℕ} {s : Sketch} {r a w′ : List ℕ} {q : Out} (w : List ℕ) (e : out n x s k r a ≡ q) (p : Put w s w′) (o : m ≡ n) where
+  pub handing : {y : ℕ} → y ≡ x → worded m y w′ k r a ≡ handed w q
+  handing {y} i =
+      let h : handed w (out n x s k r a) ≡ handed w q = ap (handed w) e in cc
+
+  -- of a call that names no place
+  pub handing-none : q .place ≡ 0 → worded m 0 w′ k r a ≡ handed w q
+  handing-none z = handing (sym (ap (λ (o : Out). o .place) e ∙ z))

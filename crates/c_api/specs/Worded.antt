@@ -6,9 +6,10 @@ use Rattle.model.specs.Calls.{Out, Summed}
 use Rattle.model.specs.declared.Sketch.{Sketch}
 use Rattle.c_api.specs.Words.{recordIn, recordOut}
 
--- number, the record's words, the record that they stand for, count, register bytes, exception area
+-- number, place, the record's words, the record that they stand for, count, register bytes, exception area
 pub record Worded : Type 0 where
   pub no : ℕ
+  pub place : ℕ
   pub words : List ℕ
   pub sketch : Sketch
   pub count : ℕ
@@ -16,12 +17,12 @@ pub record Worded : Type 0 where
   pub aux : List ℕ
 
 -- one, by its parts
-abbrev pub worded : ℕ → List ℕ → ℕ → List ℕ → List ℕ → Worded
-worded n w k r a = record { no = n; words = w; sketch = recordIn w; count = k; regs = r; aux = a }
+abbrev pub worded : ℕ → ℕ → List ℕ → ℕ → List ℕ → List ℕ → Worded
+worded n p w k r a = record { no = n; place = p; words = w; sketch = recordIn w; count = k; regs = r; aux = a }
 
 -- what a call gives: its record, and that put over the words that were handed in
 abbrev pub handed : List ℕ → Out → Worded
-handed w q = record { no = q .no; words = recordOut w (q .sketch); sketch = q .sketch; count = q .count; regs = q .regs; aux = q .aux }
+handed w q = record { no = q .no; place = q .place; words = recordOut w (q .sketch); sketch = q .sketch; count = q .count; regs = q .regs; aux = q .aux }
 
 -- what sums gives back: the number, and kxq0 and kxq1 as two doubles
 pub record Two : Type 0 where

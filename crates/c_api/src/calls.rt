@@ -18,7 +18,7 @@ pub extern "C" fn lp_start(
     regs: &mut [u8],
     aux: &mut [u32],
 ) -> u32
-    ensures { λ r. ⌜ worded r (now (words .exit)) 0 (now (regs .exit)) (now (aux .exit)) ≡ handed (now (words .entry)) (startOf (narrowed kind) (narrowed «lg_k») (now (regs .entry)) (now (aux .entry))) ⌝ }
+    ensures { λ r. ⌜ worded r 0 (now (words .exit)) 0 (now (regs .exit)) (now (aux .exit)) ≡ handed (now (words .entry)) (startOf (narrowed kind) (narrowed «lg_k») (now (regs .entry)) (now (aux .entry))) ⌝ }
 {
     let made = sketch::start(narrow(kind), narrow(lg_k), regs, aux);
     let after = made.sketch;
@@ -36,7 +36,7 @@ pub extern "C" fn lp_feed(
     coupons: &[u32],
     taken: &mut usize,
 ) -> u32
-    ensures { λ r. ⌜ worded r (now (words .exit)) (now (taken .exit)) (now (regs .exit)) (now (aux .exit)) ≡ handed (now (words .entry)) (feedOf (recordIn (now (words .entry))) (now (regs .entry)) (now (aux .entry)) (now (scratch .entry)) (now (coupons .entry))) ⌝ }
+    ensures { λ r. ⌜ worded r 0 (now (words .exit)) (now (taken .exit)) (now (regs .exit)) (now (aux .exit)) ≡ handed (now (words .entry)) (feedOf (recordIn (now (words .entry))) (now (regs .entry)) (now (aux .entry)) (now (scratch .entry)) (now (coupons .entry))) ⌝ }
 {
     let fed = sketch::feed(get(words), regs, aux, scratch, coupons);
     let after = fed.sketch;
@@ -69,7 +69,7 @@ pub extern "C" fn lp_merge(
     sregs: &[u8],
     saux: &[u32],
 ) -> u32
-    ensures { λ r. ⌜ worded r (now (target .exit)) 0 (now (tregs .exit)) [] ≡ handed (now (target .entry)) (mergeOf (recordIn (now (target .entry))) (now (tregs .entry)) (recordIn (now (source .entry))) (now (sregs .entry)) (now (saux .entry))) ⌝ }
+    ensures { λ r. ⌜ worded r 0 (now (target .exit)) 0 (now (tregs .exit)) [] ≡ handed (now (target .entry)) (mergeOf (recordIn (now (target .entry))) (now (tregs .entry)) (recordIn (now (source .entry))) (now (sregs .entry)) (now (saux .entry))) ⌝ }
 {
     let made = sketch::merge(get(target), tregs, get(source), sregs, saux);
     let after = made.sketch;

@@ -23,6 +23,7 @@ pub extern "C" fn lp_write(
     number(answer)
 }
 
+// `place`: where the image is wrong, if the answer says; else 0.
 #[no_mangle]
 pub extern "C" fn lp_open(
     image: &[u8],
@@ -30,12 +31,14 @@ pub extern "C" fn lp_open(
     regs: &mut [u8],
     aux: &mut [u32],
     scratch: &mut [u32],
+    place: &mut u32,
 ) -> u32
-    ensures { λ r. ⌜ worded r (now (words .exit)) 0 (now (regs .exit)) (now (aux .exit)) ≡ handed (now (words .entry)) (openOf (now (image .entry)) (now (regs .entry)) (now (aux .entry)) (now (scratch .entry))) ⌝ }
+    ensures { λ r. ⌜ worded r (now (place .exit)) (now (words .exit)) 0 (now (regs .exit)) (now (aux .exit)) ≡ handed (now (words .entry)) (openOf (now (image .entry)) (now (regs .entry)) (now (aux .entry)) (now (scratch .entry))) ⌝ }
 {
     let opened = image_open::open(image, regs, aux, scratch);
     let after = opened.sketch;
     put(words, after);
     let answer = opened.answer;
+    *place = model::place(answer);
     number(answer)
 }

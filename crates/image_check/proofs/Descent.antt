@@ -1,17 +1,17 @@
 -- The ladder behind the header's own refusals, by what the header says. Assumes nothing.
-use mathlib.Core.Path.{_≡_, sym, _∙_, ap}
+use mathlib.Core.Path.{_≡_, refl, sym, _∙_, ap}
 use mathlib.Core.List.{List}
-use Prim.Native.Nat.{ℕ}
-use native.Mathlib.Omega.{arith}
-use Rattle.model.specs.Image.{sketchIn, formNo, memoryNo, countsNo, roomNo, bodyNo, openNo}
+use Prim.Native.Nat.{ℕ, _<_}
+use Rattle.model.specs.Answers.{numberOf, Said, saidOf}
+use Rattle.model.specs.Image.{sketchIn, formNo, memoryNo, countsNo, roomNo, bodyNo, saidIn, openNo}
 use Rattle.model.specs.declared.Sketch.{Sketch}
-use Rattle.model.proofs.order.Tests.{scratch-asks}
+use Rattle.model.specs.declared.Answer.{Answer}
+use Rattle.model.proofs.calls.Places.{form-low, memory-low, counts-low, room-low}
 use Rattle.model.proofs.calls.Rungs.{open-form, open-memory, open-counts, open-room, open-body}
-use Rattle.model.proofs.image.Opens.{memory-says, room-says}
+use Rattle.model.proofs.image.SaidIn.{answer-in}
 use Rattle.image_header.specs.Header.{recordIn, Headed}
 use Rattle.image_header.specs.declared.Header.{Header}
 use Rattle.image_header.proofs.Headers.{record-is}
-use Rattle.image_check.specs.Passed.{Sound}
 
 module _ {l : List ℕ} {h : Header} (ok : Headed l h) (regs aux scratch : ℕ) where
   is : recordIn h ≡ sketchIn l
@@ -26,30 +26,24 @@ module _ {l : List ℕ} {h : Header} (ok : Headed l h) (regs aux scratch : ℕ) 
   room-is : roomNo (h .«lg_k») (h .«aux_count») aux ≡ roomNo (sketchIn l .«lg_k») (sketchIn l .«aux_count») aux
   room-is = ap (λ (s : Sketch). roomNo (s .«lg_k») (s .«aux_count») aux) is
 
-  pub at-form : {n : ℕ} → n ≡ formNo (h .kind) (h .«lg_k») → (n ≡ 0 → ⊥) → n ≡ openNo l regs aux scratch
-  at-form e some = open-form l regs aux scratch (ok .passed) _ (e ∙ form-is) some
+  -- an answer that names no place
+  low : (a : Answer) {n : ℕ} → numberOf a ≡ n → n < 21 → numberOf a ≡ openNo l regs aux scratch → saidOf a ≡ saidIn l (openNo l regs aux scratch)
+  low a e d o = answer-in l a o (rw (← o, e) d)
+
+  pub at-form : (a : Answer) → numberOf a ≡ formNo (h .kind) (h .«lg_k») → (numberOf a ≡ 0 → ⊥) → saidOf a ≡ saidIn l (openNo l regs aux scratch)
+  at-form a e some = low a e (form-low _ _) (open-form l regs aux scratch (ok .passed) _ (e ∙ form-is) some)
 
   module _ (form : formNo (h .kind) (h .«lg_k») ≡ 0) where
-    pub at-memory : {n : ℕ} → n ≡ memoryNo (h .kind) (h .«lg_k») regs aux scratch → (n ≡ 0 → ⊥) → n ≡ openNo l regs aux scratch
-    at-memory e some = open-memory l regs aux scratch (ok .passed) (sym form-is ∙ form) _ (e ∙ memory-is) some
+    pub at-memory : (a : Answer) → numberOf a ≡ memoryNo (h .kind) (h .«lg_k») regs aux scratch → (numberOf a ≡ 0 → ⊥) → saidOf a ≡ saidIn l (openNo l regs aux scratch)
+    at-memory a e some = low a e (memory-low _ _ _ _ _) (open-memory l regs aux scratch (ok .passed) (sym form-is ∙ form) _ (e ∙ memory-is) some)
 
     module _ (memory : memoryNo (h .kind) (h .«lg_k») regs aux scratch ≡ 0) where
-      pub at-counts : {n : ℕ} → n ≡ countsNo l → (n ≡ 0 → ⊥) → n ≡ openNo l regs aux scratch
-      at-counts e some = open-counts l regs aux scratch (ok .passed) (sym form-is ∙ form) (sym memory-is ∙ memory) _ e some
+      pub at-counts : (a : Answer) → numberOf a ≡ countsNo l → (numberOf a ≡ 0 → ⊥) → saidOf a ≡ saidIn l (openNo l regs aux scratch)
+      at-counts a e some = low a e (counts-low l) (open-counts l regs aux scratch (ok .passed) (sym form-is ∙ form) (sym memory-is ∙ memory) _ e some)
 
       module _ (counts : countsNo l ≡ 0) where
-        pub at-room : {n : ℕ} → n ≡ roomNo (h .«lg_k») (h .«aux_count») aux → (n ≡ 0 → ⊥) → n ≡ openNo l regs aux scratch
-        at-room e some = open-room l regs aux scratch (ok .passed) (sym form-is ∙ form) (sym memory-is ∙ memory) counts _ (e ∙ room-is) some
+        pub at-room : (a : Answer) → numberOf a ≡ roomNo (h .«lg_k») (h .«aux_count») aux → (numberOf a ≡ 0 → ⊥) → saidOf a ≡ saidIn l (openNo l regs aux scratch)
+        at-room a e some = low a e (room-low _ _ _) (open-room l regs aux scratch (ok .passed) (sym form-is ∙ form) (sym memory-is ∙ memory) counts _ (e ∙ room-is) some)
 
-        module _ (room : roomNo (h .«lg_k») (h .«aux_count») aux ≡ 0) where
-          pub at-body : {n : ℕ} → n ≡ bodyNo l → n ≡ openNo l regs aux scratch
-          at-body e = open-body l regs aux scratch (ok .passed) (sym form-is ∙ form) (sym memory-is ∙ memory) counts _ (sym room-is ∙ room) e
-
-          -- what the last part asks: scratch is no shorter than the area, and the area has room
-          pub at-sound : Sound l h scratch
-          at-sound =
-              record {
-                formed = record { headed = ok; form = form };
-                counts = counts;
-                fits = λ four. omega (arith, scratch-asks (h .kind) aux scratch (memory-says _ _ _ _ _ .0 memory .1) four, room-says _ _ _ .0 room);
-              }
+        pub at-body : (f : Said) → roomNo (h .«lg_k») (h .«aux_count») aux ≡ 0 → f ≡ saidIn l (bodyNo l) → f ≡ saidIn l (openNo l regs aux scratch)
+        at-body f room e = e ∙ ap (λ (n : ℕ). saidIn l n) (open-body l regs aux scratch (ok .passed) (sym form-is ∙ form) (sym memory-is ∙ memory) counts _ (sym room-is ∙ room) refl)

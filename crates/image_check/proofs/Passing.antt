@@ -38,7 +38,7 @@ module _ {l : List ℕ} {h : Header} (f : Formed l h) where
   pub words-small : countsFit (sketchIn l) ≡ true → lgArrIn h ≡ true → wordsIn h < 2 ^ 32
   words-small e a = words-few h a (omega (arith, few-in e, pow-mono (formed .1 .1)))
 
-module _ {l : List ℕ} {h : Header} {room : ℕ} (s : Sound l h room) where
+module _ {l : List ℕ} {h : Header} (s : Sound l h) where
   pub counted : Counted l
   counted = counts-says l .0 (s .counts)
 
@@ -47,6 +47,9 @@ module _ {l : List ℕ} {h : Header} {room : ℕ} (s : Sound l h room) where
 
   pub counts-here : countsFit (recordIn h) ≡ true
   counts-here = ap countsFit (is-in (s .formed)) ∙ counted .counts
+
+  pub words-here : wordsIn h < 2 ^ 32
+  words-here = words-small (s .formed) (counted .counts) lg-arr-here
 
   pub few-here : h .«aux_count» ≤ 2 ^ h .«lg_k»
   few-here = counts-few (s .formed) (s .counts)

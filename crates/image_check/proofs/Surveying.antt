@@ -15,7 +15,7 @@ use Rattle.image_check.specs.Passed.{Sound, Full}
 use Rattle.image_check.proofs.Passing.{formed, is-in, counts-here, payload-here}
 use Rattle.image_check.proofs.Payload.{regs-part, regs-long}
 
-module _ {l : List ℕ} {h : Header} {room : ℕ} (ok : Sound l h room) (n : ℕ) (e : n ≡ bytesOf (h .kind) (h .«lg_k»)) where
+module _ {l : List ℕ} {h : Header} (ok : Sound l h) (n : ℕ) (e : n ≡ bytesOf (h .kind) (h .«lg_k»)) where
   pub surveyable : Surveyable (recordIn h) (take (40 + n - 40) (drop 40 l))
   surveyable =
       let f = formed (ok .formed) in
@@ -27,5 +27,5 @@ module _ {l : List ℕ} {h : Header} {room : ℕ} (ok : Sound l h room) (n : ℕ
       subst (λ (s : Sketch). Surveyed s (regsIn l) seen) (is-in (ok .formed))
       (subst (λ (regs : List ℕ). Surveyed (recordIn h) regs seen) (regs-part l (recordIn h) (is-in (ok .formed)) n e) told)
 
-  pub full : {seen : Seen} → Surveyed (recordIn h) (take (40 + n - 40) (drop 40 l)) seen → Full l h (seen .tokens) room
+  pub full : {seen : Seen} → Surveyed (recordIn h) (take (40 + n - 40) (drop 40 l)) seen → Full l h (seen .tokens)
   full told = record { sound = ok; counted = λ four. surveyed told .tokens (ap (λ (s : Sketch). s .kind) (sym (is-in (ok .formed))) ∙ four) }

@@ -3,7 +3,6 @@ use mathlib.Core.Path.{_≡_}
 use mathlib.Core.List.{List}
 use Prim.Native.Nat.{ℕ, _^_, _≤_}
 use Rattle.model.specs.Registers.{countOf}
-use Rattle.model.specs.Table.{baseFor, tableSize}
 use Rattle.model.specs.Sketch.{cells}
 use Rattle.model.specs.Image.{sketchIn, regsIn, formNo, countsNo}
 use Rattle.image_header.specs.Header.{Headed}
@@ -20,13 +19,12 @@ pub record Roomy (lgk count : ℕ) : Type 0 where
   pub high : lgk ≤ 21
   pub few : count ≤ 2 ^ lgk
 
--- .. whose counts fit, with all of its payload, and room for so many words as its table has
-pub record Sound (l : List ℕ) (h : Header) (room : ℕ) : Type 0 where
+-- .. whose counts fit, with all of its payload
+pub record Sound (l : List ℕ) (h : Header) : Type 0 where
   pub formed : Formed l h
   pub counts : countsNo l ≡ 0
-  pub fits : h .kind ≡ 4 → tableSize (baseFor (h .«lg_k»)) (h .«aux_count») ≤ room
 
 -- .. and the number of its nibbles that are 15
-pub record Full (l : List ℕ) (h : Header) (fulls room : ℕ) : Type 0 where
-  pub sound : Sound l h room
+pub record Full (l : List ℕ) (h : Header) (fulls : ℕ) : Type 0 where
+  pub sound : Sound l h
   pub counted : h .kind ≡ 4 → fulls ≡ countOf 15 (cells (sketchIn l) (regsIn l))

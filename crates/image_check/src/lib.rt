@@ -1,16 +1,12 @@
 // Whether an image may be opened: opening's ladder of refusals behind the header's own, part by part, and the whole in document 01's order. It looks at
-// the image, its header, which was decoded before, and the lengths of what is lent. Nothing is written but scratch, and that for kind 4 alone.
+// the image, its header, which was decoded before, and the lengths of what is lent. Nothing is written.
 use image_header::Header;
 use model::Answer;
 use shape::REGISTERS_BYTE;
 ghost use mathlib.Core.Path.{_≡_};
-ghost use mathlib.Core.Bool.{true};
 ghost use Prim.Native.Nat.{_≤_};
-ghost use lib.Dec.{eqb};
-ghost use lib.ListN.{length};
-ghost use Rattle.model.specs.Pick.{pick};
-ghost use Rattle.model.specs.Answers.{numberOf};
-ghost use Rattle.model.specs.Image.{auxFits, formNo, memoryNo, countsNo, roomNo, bodyNo, openNo};
+ghost use Rattle.model.specs.Answers.{numberOf, saidOf};
+ghost use Rattle.model.specs.Image.{auxIn, formNo, memoryNo, countsNo, roomNo, bodyNo, saidIn, openNo};
 ghost use Rattle.image_header.specs.Header.{Headed};
 ghost use Rattle.image_check.specs.Passed.{Formed, Roomy, Sound, Full};
 
@@ -78,48 +74,37 @@ pub fn room(lg_k: u8, aux_count: u32, aux_len: usize) -> Answer
     Answer::Ok
 }
 
-// Kind 4's words: as many nibbles of 15 as the header counts, and entries that fit them. Scratch has room for a table that so many entries do not
-// fill; no words need no table.
-fn aux_fits(image: &[u8], h: Header, fulls: u32, scratch: &mut [u32]) -> bool
-    requires { ⌜ Full (now image) h fulls (length (now scratch)) ⌝ }
-    ensures { λ r. ⌜ r ≡ pick (eqb (h .kind) 4) (auxFits (now (image .entry))) true ⌝ }
+// What is wrong with kind 4's words, given how many nibbles are 15. Most images have neither, and need no bitmap.
+fn aux_fault(image: &[u8], h: Header, fulls: u32) -> Answer
+    requires { ⌜ Full (now image) h fulls ⌝ }
+    ensures { λ r. ⌜ saidOf r ≡ auxIn (now (image .entry)) ⌝ }
 {
     if h.kind != 4 {
-        return true;
+        return Answer::Ok;
     }
-    if fulls != h.aux_count {
-        return false;
-    }
-    if fulls == 0 {
-        return true;
+    if h.aux_count == 0 {
+        if fulls == 0 {
+            return Answer::Ok;
+        }
     }
     let end = REGISTERS_BYTE + shape::bytes_of(h.kind, h.lg_k);
     let many = image_header::word_count(h);
-    let base = aux_map::base_for(h.lg_k);
-    let size = aux_map::table_size(base, h.aux_count as usize);
-    image_words::words_fit(
-        image_header::sketch_of(h),
-        h.compact,
-        &image[REGISTERS_BYTE..end],
-        &image[end..],
-        many,
-        &mut scratch[..size],
-    )
+    image_faults::aux_fault(h, &image[REGISTERS_BYTE..end], &image[end..], many, fulls)
 }
 
-// VALUE, AUX, SPARE, TALLY.
-pub fn body(image: &[u8], h: Header, scratch: &mut [u32]) -> Answer
-    requires { ⌜ Sound (now image) h (length (now scratch)) ⌝ }
-    ensures { λ r. ⌜ numberOf r ≡ bodyNo (now (image .entry)) ⌝ }
+// VALUE, the five of the exception words, SPARE, TALLY.
+pub fn body(image: &[u8], h: Header) -> Answer
+    requires { ⌜ Sound (now image) h ⌝ }
+    ensures { λ r. ⌜ saidOf r ≡ saidIn (now (image .entry)) (bodyNo (now (image .entry))) ⌝ }
 {
     let end = REGISTERS_BYTE + shape::bytes_of(h.kind, h.lg_k);
     let seen = survey::survey(image_header::sketch_of(h), &image[REGISTERS_BYTE..end]);
     if !seen.values {
         return Answer::Value;
     }
-    let listed = aux_fits(image, h, seen.tokens, scratch);
-    if !listed {
-        return Answer::Aux;
+    let listed = aux_fault(image, h, seen.tokens);
+    if model::number(listed) != 0 {
+        return listed;
     }
     if !seen.spare {
         return Answer::Spare;
@@ -131,21 +116,15 @@ pub fn body(image: &[u8], h: Header, scratch: &mut [u32]) -> Answer
 }
 
 // All of it, behind the header's own refusals.
-pub fn check(
-    image: &[u8],
-    h: Header,
-    regs_len: usize,
-    aux_len: usize,
-    scratch: &mut [u32],
-) -> Answer
+pub fn check(image: &[u8], h: Header, regs_len: usize, aux_len: usize, scratch_len: usize) -> Answer
     requires { ⌜ Headed (now image) h ⌝ }
-    ensures { λ r. ⌜ numberOf r ≡ openNo (now (image .entry)) «regs_len» «aux_len» (length (now (scratch .entry))) ⌝ }
+    ensures { λ r. ⌜ saidOf r ≡ saidIn (now (image .entry)) (openNo (now (image .entry)) «regs_len» «aux_len» «scratch_len») ⌝ }
 {
     let a = form(h.kind, h.lg_k);
     if model::number(a) != 0 {
         return a;
     }
-    let b = memory(h.kind, h.lg_k, regs_len, aux_len, scratch.len());
+    let b = memory(h.kind, h.lg_k, regs_len, aux_len, scratch_len);
     if model::number(b) != 0 {
         return b;
     }
@@ -157,5 +136,5 @@ pub fn check(
     if model::number(d) != 0 {
         return d;
     }
-    body(image, h, scratch)
+    body(image, h)
 }

@@ -7,34 +7,28 @@ use native.Mathlib.Omega.{arith}
 use lib.ListN.{length, take, drop, replicate, length-map, length-replicate}
 use borrow.Author.Tests.{eq-eqb, ne-eqb}
 use Rattle.model.specs.Packed.{unpacked}
-use Rattle.model.specs.Table.{baseFor, tableSize, made, laid, Makable}
+use Rattle.model.specs.Table.{baseFor, tableSize, filled, made, laid, Makable}
 use Rattle.model.specs.Sketch.{bytesOf, areaOf, cells}
-use Rattle.model.specs.Calls.{refusedOut, nothing}
-use Rattle.model.specs.Image.{sketchIn, regsIn, entriesIn, homed, formNo, openNo, openOf}
+use Rattle.model.specs.Image.{sketchIn, regsIn, entriesIn, homed, formNo}
 use Rattle.model.specs.declared.Sketch.{Sketch}
 use Rattle.model.proofs.order.Tests.{scratch-asks}
 use Rattle.model.proofs.table.Sizes.{sized}
 use Rattle.model.proofs.table.Inserted.{size-fits}
 use Rattle.model.proofs.table.Shape.{size-some}
-use Rattle.model.proofs.image.Entries.{AuxFits, aux-tells}
+use Rattle.model.proofs.image.Entries.{AuxFits}
+use Rattle.model.proofs.image.SameSlots.{aux-fits}
 use Rattle.model.proofs.image.Taken.{taken-words}
 use Rattle.model.proofs.image.Opens.{Opens, form-says, counts-says, open-says}
 use Rattle.aux_map.proofs.Bases.{based}
 use Rattle.aux_table.specs.Build.{Buildable}
-use Rattle.image_words.specs.Entries.{entries, Collectable, Collected}
+use Rattle.image_words.specs.Entries.{Collectable, Collected}
 use Rattle.image_header.specs.Header.{recordIn, wordsIn}
 use Rattle.image_header.specs.declared.Header.{Header}
-use Rattle.image_header.proofs.Headers.{record-is, compact-is, words-are}
+use Rattle.image_header.proofs.Headers.{record-is, words-are}
 use Rattle.image_check.specs.Passed.{Sound}
 use Rattle.image_check.proofs.Passing.{formed, payload-here}
-use Rattle.image_check.proofs.Aux.{entries-are}
 use Rattle.image_check.proofs.Payload.{words-part, words-long}
 use Rattle.image_load.specs.Loaded.{Accepted}
-
--- a refused image leaves everything
-pub opens-not : (l regs aux scratch : List ℕ) {n : ℕ} → n ≡ openNo l (length regs) (length aux) (length scratch) → (n ≡ 0 → ⊥) → refusedOut n nothing regs aux ≡ openOf l regs aux scratch
-unfolding openOf
-opens-not l regs aux scratch e h = rw (← e, ne-eqb _ 0 h)
 
 -- the area that another kind leaves
 pub area-other : (kind : ℕ) (t aux : List ℕ) → (kind ≡ 4 → ⊥) → aux ≡ areaOf kind t aux
@@ -52,12 +46,11 @@ module _ (l : List ℕ) (h : Header) (aux scratch : ℕ) (ok : Accepted l h aux 
   pub is-in : recordIn h ≡ sketchIn l
   is-in = record-is l h (ok .headed)
 
-  pub sound : Sound l h aux
+  pub sound : Sound l h
   sound =
       record {
         formed = record { headed = ok .headed; form = subst (λ (r : Sketch). formNo (r .kind) (r .«lg_k») ≡ 0) (sym is-in) (form-says _ _ .1 (opens .known, opens .sized)) };
         counts = counts-says l .1 (opens .counted);
-        fits = λ four. subst (λ (r : Sketch). tableSize (baseFor (r .«lg_k»)) (r .«aux_count») ≤ aux) (sym is-in) (opens .room);
       }
 
   pub low : 4 ≤ h .«lg_k»
@@ -74,7 +67,7 @@ module _ (l : List ℕ) (h : Header) (aux scratch : ℕ) (ok : Accepted l h aux 
     listed-in : AuxFits (2 ^ s .«lg_k») (s .«cur_min») (s .«aux_count») (cells s (regsIn l)) (entriesIn l)
     listed-in =
         subst (λ (r : Sketch). AuxFits (2 ^ r .«lg_k») (r .«cur_min») (r .«aux_count») (cells r (regsIn l)) (entriesIn l)) (sym is-in)
-        (aux-tells l .0 (opens .bodied .entries (ap (λ (r : Sketch). r .kind) (sym is-in) ∙ four)))
+        (aux-fits l (ap (λ (r : Sketch). r .kind) (sym is-in) ∙ four) (opens .bodied .entries))
 
     abbrev ws : List ℕ
     ws = map (homed (2 ^ s .«lg_k»)) (entriesIn l)
@@ -86,7 +79,7 @@ module _ (l : List ℕ) (h : Header) (aux scratch : ℕ) (ok : Accepted l h aux 
     many-ws = length-map (entriesIn l) (homed (2 ^ s .«lg_k»)) ∙ listed-in .many
 
     fits : tableSize (baseFor (s .«lg_k»)) (s .«aux_count») ≤ aux
-    fits = sound .fits four
+    fits = subst (λ (r : Sketch). tableSize (baseFor (r .«lg_k»)) (r .«aux_count») ≤ aux) (sym is-in) (opens .room)
 
     spared : aux ≤ scratch
     spared = scratch-asks _ _ _ (opens .scratched) (ap (λ (r : Sketch). r .kind) (sym is-in) ∙ four)
@@ -104,11 +97,11 @@ module _ (l : List ℕ) (h : Header) (aux scratch : ℕ) (ok : Accepted l h aux 
       abbrev part : List ℕ
       part = take (length l - (40 + n)) (drop (40 + n) l)
 
-      entries-here : entries (h .compact) (unpacked 32 many part) ≡ entriesIn l
-      entries-here =
-          ap₂ entries (compact-is l h (ok .headed)) (ap₂ (unpacked 32) (words ∙ words-are l h (ok .headed)) (words-part l s is-in n bytes)) ∙ entries-are l
+      entries-here : filled (unpacked 32 many part) ≡ entriesIn l
+      unfolding entriesIn
+      entries-here = ap₂ (λ (m : ℕ) (bs : List ℕ). filled (unpacked 32 m bs)) (words ∙ words-are l h (ok .headed)) (words-part l s is-in n bytes)
 
-      pub collectable : (into : List ℕ) → length into ≡ scratch → Collectable (h .«lg_k») (h .compact) (take (length l - (40 + n)) (drop (40 + n) l)) many into
+      pub collectable : (into : List ℕ) → length into ≡ scratch → Collectable (h .«lg_k») (take (length l - (40 + n)) (drop (40 + n) l)) many into
       collectable into long =
           record {
             high = high;
@@ -117,7 +110,7 @@ module _ (l : List ℕ) (h : Header) (aux scratch : ℕ) (ok : Accepted l h aux 
           }
 
       -- the entries at scratch's end, and an area that was cleared
-      module _ (into : List ℕ) (top : ℕ) (long : length into ≡ scratch) (got : Collected (h .«lg_k») (h .compact) (take (length l - (40 + n)) (drop (40 + n) l)) many into top) where
+      module _ (into : List ℕ) (top : ℕ) (long : length into ≡ scratch) (got : Collected (h .«lg_k») (take (length l - (40 + n)) (drop (40 + n) l)) many into top) where
         got-is : drop top into ≡ ws
         got-is = got .are ∙ ap (map (homed (2 ^ s .«lg_k»))) entries-here
 

@@ -1,4 +1,4 @@
-// What an image holds into lent memory, by a header that was decoded before. It is checked first, so that a refusal has written nothing but scratch.
+// What an image holds into lent memory, by a header that was decoded before. It is checked first, so that a refusal has written nothing.
 use image_header::Header;
 use model::Answer;
 use model::Made;
@@ -25,7 +25,7 @@ fn lay(image: &[u8], h: Header, aux: &mut [u32], scratch: &mut [u32])
     }
     let end = REGISTERS_BYTE + shape::bytes_of(h.kind, h.lg_k);
     let many = image_header::word_count(h);
-    let top = image_words::collect(h.lg_k, h.compact, &image[end..], many, scratch);
+    let top = image_words::collect(h.lg_k, &image[end..], many, scratch);
     aux_map::clear(aux);
     let base = aux_map::base_for(h.lg_k);
     aux_table::build(aux, scratch, base, top);
@@ -35,7 +35,7 @@ pub fn load(image: &[u8], h: Header, regs: &mut [u8], aux: &mut [u32], scratch: 
     requires { ⌜ Headed (now image) h ⌝ }
     ensures { λ r. ⌜ madeOut r (now (regs .exit)) (now (aux .exit)) ≡ openOf (now (image .entry)) (now (regs .entry)) (now (aux .entry)) (now (scratch .entry)) ⌝ }
 {
-    let answer = image_check::check(image, h, regs.len(), aux.len(), scratch);
+    let answer = image_check::check(image, h, regs.len(), aux.len(), scratch.len());
     if model::number(answer) != 0 {
         return model::refused(answer);
     }

@@ -11,10 +11,10 @@ use lib.Seq.{take-length}
 use borrow.Author.Tests.{ne-eqb}
 use Rattle.model.specs.Packed.{packed}
 use Rattle.model.specs.Sums.{kxq0, kxq1}
-use Rattle.model.specs.Table.{laid}
+use Rattle.model.specs.Table.{laid, filled}
 use Rattle.model.proofs.table.Sifted.{sifted-none, filled-front}
 use Rattle.model.specs.Sketch.{tableIn, registers, Good}
-use Rattle.model.specs.Image.{imageIn, filled}
+use Rattle.model.specs.Image.{imageIn}
 use Rattle.model.specs.declared.Sketch.{Sketch}
 use Rattle.model.proofs.order.Tells.{tells-true}
 use Rattle.model.proofs.order.Tests.{Passes, TableFits, good-asks, counts-tells, table-tells}

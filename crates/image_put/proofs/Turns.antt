@@ -10,7 +10,7 @@ use lib.ListN.{length, getD, take, drop, drop-of-length-le}
 use lib.Seq.{drop-cons}
 use Rattle.model.specs.Coupon.{isEmpty}
 use Rattle.model.specs.Packed.{digits, packed}
-use Rattle.model.specs.Image.{filled}
+use Rattle.model.specs.Table.{filled}
 use Rattle.model.proofs.packing.ByteLists.{length-packed}
 use Rattle.model.proofs.table.Sifted.{sifted-none, filled-in, filled-out}
 use Rattle.model.proofs.packing.Digits.{length-digits}

@@ -4,7 +4,8 @@ use mathlib.Core.List.{List, [], _∷_, _++_}
 use lib.Ieee.{Float, binary64, toBits}
 use lib.ListN.{length, take, drop, replicate}
 use Rattle.model.specs.Packed.{digits, packed}
-use Rattle.model.specs.Image.{filled, modeOf, flagsOf, magic}
+use Rattle.model.specs.Table.{filled}
+use Rattle.model.specs.Image.{modeOf, flagsOf, magic}
 use Rattle.model.specs.declared.Sketch.{Sketch}
 
 -- s over what stands in d from a place on

@@ -6,7 +6,8 @@ use Prim.Native.Nat.{ℕ, _+_, _*_, _≤_}
 use lib.Dec.{T}
 use lib.Ieee.{Float, isNan}
 use lib.ListN.{length}
-use Rattle.model.specs.Image.{filled, imageIn}
+use Rattle.model.specs.Table.{filled}
+use Rattle.model.specs.Image.{imageIn}
 use Rattle.model.specs.Sketch.{registers, Good}
 use Rattle.model.specs.Sums.{kxq0, kxq1}
 use Rattle.model.specs.declared.Sketch.{Sketch}

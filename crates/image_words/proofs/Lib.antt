@@ -1,4 +1,2 @@
 pub mod Cells
-pub mod Turns
-pub mod Listing
 pub mod Collecting

@@ -32,7 +32,7 @@ use Rattle.job.specs.Job.{jobOf}
 use Rattle.job.proofs.Texts as texts
 use Rattle.merge_job.specs.Merge.{fileNo, openedOf, joinOf, takeOf, File, unread, came, Merging, merging, mergeAll, mergedOf, reportOf}
 use Rattle.merge_job.specs.Promised.{Target}
-use Rattle.merge_job.specs.Claims.{JobText, TextJob, FileAnswers, NeverNoRoom, AllKeep, Sent, AllSent, EndToEnd, PutsThat}
+use Rattle.merge_job.specs.Claims.{JobText, TextJob, FileAnswers, NeverNoRoom, PlaceOnly, AllKeep, Sent, AllSent, EndToEnd, PutsThat}
 use Rattle.merge_job.proofs.Filed.{file-says}
 use Rattle.merge_job.proofs.Joining.{bytes-room}
 use Rattle.merge_job.proofs.Answers as numbers
@@ -113,7 +113,7 @@ abbrev Ends : ℕ → List ℕ → Merging → Type 0
 Ends lgk got m = (m .no ≡ 0) × Target lgk (m .sketch) (m .regs) × Holding (m .sketch) (m .regs) [] got
 
 next : (lgk i : ℕ) (done one more got : List ℕ) (fs : List File) (o : Out) → got ≡ one ++ more → Gives lgk (done ++ one) o → Ends lgk ((done ++ one) ++ more) (mergeAll (suc i) (o .sketch) (o .regs) fs)
-    → Ends lgk (done ++ got) (pick (eqb (o .no) 0) (mergeAll (suc i) (o .sketch) (o .regs) fs) (merging (o .no) (suc i) (o .sketch) (o .regs)))
+    → Ends lgk (done ++ got) (pick (eqb (o .no) 0) (mergeAll (suc i) (o .sketch) (o .regs) fs) (merging (o .no) (o .place) (suc i) (o .sketch) (o .regs)))
 next lgk i done one more got fs o e r m = rw (r .0, e, ← append-assoc done one more) m
 
 all-sent : (lgk i : ℕ) (t : Sketch) (tregs done : List ℕ) (fs : List File) (got : List ℕ) → Target lgk t tregs → Holding t tregs [] done → AllSent lgk fs got → Ends lgk (done ++ got) (mergeAll i t tregs fs)
@@ -124,7 +124,7 @@ all-sent lgk i t tregs done (came x b ∷ fs) got g h a = go (takeOf t tregs x) 
   where
     go : (o : Out) → Gives lgk (done ++ a .0) o
         → ((u : Sketch) (uregs : List ℕ) → Target lgk u uregs → Holding u uregs [] (done ++ a .0) → Ends lgk ((done ++ a .0) ++ a .1) (mergeAll (suc i) u uregs fs))
-        → Ends lgk (done ++ got) (pick (eqb (o .no) 0) (mergeAll (suc i) (o .sketch) (o .regs) fs) (merging (o .no) (suc i) (o .sketch) (o .regs)))
+        → Ends lgk (done ++ got) (pick (eqb (o .no) 0) (mergeAll (suc i) (o .sketch) (o .regs) fs) (merging (o .no) (o .place) (suc i) (o .sketch) (o .regs)))
     go o r ih = next lgk i done (a .0) (a .1) got fs o (a .4) r (ih (o .sketch) (o .regs) (r .1) (r .2))
 
 -- ---- a run
@@ -187,6 +187,9 @@ file-answers = numbers.file-answers
 
 pub never-no-room : NeverNoRoom
 never-no-room = numbers.never-no-room
+
+pub place-only : PlaceOnly
+place-only = numbers.place-only
 
 pub all-keep : AllKeep
 all-keep = keeps.all-keep

@@ -120,7 +120,7 @@ module _ (l : List ℕ) (p : Places) (is : p ≡ placesOf (jobOf l)) (some : p .
 pub told : (l new : List ℕ) (r : ℕ) → Reported l new r → Reported l (take r new) (length (take r new))
 told l new r h = record { read = h .read; put = h .put; most = h .most; whole = h .whole; holds = record { counts = (le-refl _, ap length (sym (take-length (take r new)))); bytes = take-length (take r new) ∙ h .holds .bytes } }
 
-pub no-job-reported : (l : List ℕ) (p : Places) → p ≡ placesOf (jobOf l) → p .«lg_k» ≡ 0 → (new : List ℕ) (r : ℕ) → Holds new r (refusedText 18 0) → Reported l new r
+pub no-job-reported : (l : List ℕ) (p : Places) → p ≡ placesOf (jobOf l) → p .«lg_k» ≡ 0 → (new : List ℕ) (r : ℕ) → Holds new r (refusedText 18 0 0) → Reported l new r
 unfolding reportOf
 no-job-reported l p is z new r h =
     let e = places-none (jobOf l) p is z in
@@ -147,7 +147,7 @@ module _ (l : List ℕ) (p : Places) (regs : List ℕ) (a : Asked l p regs) (o :
   target = let s = places-say l p (a .is) (a .some) in started (p .«lg_k») regs o (s .low) (s .high) (ap length (a .zeros) ∙ length-replicate _ 0) start
 
   abbrev said : Bool → ℕ → ℕ → Merging → List ℕ
-  said put files lgk m = pick (eqb (m .no) 0) (pick put (mergedText files lgk (m .regs)) (refusedText 19 0)) (refusedText (m .no) (m .file))
+  said put files lgk m = pick (eqb (m .no) 0) (pick put (mergedText files lgk (m .regs)) (refusedText 19 0 0)) (refusedText (m .no) (m .place) (m .file))
 
   pub all-whole : m .no ≡ 0 → Whole l (m .sketch) (m .regs)
   all-whole z = record {
@@ -165,7 +165,7 @@ module _ (l : List ℕ) (p : Places) (regs : List ℕ) (a : Asked l p regs) (o :
       ap (λ (n : ℕ). said put n (p .«lg_k») m) same-files
       ∙ ap (λ (n : ℕ). said put (length (jobOf l .ins)) n m) same-size
       ∙ ap (λ (m : Merging). said put (length (jobOf l .ins)) (jobOf l .lgk) m) same-merging
-      ∙ ap (λ (b : Bool). pick b (refusedText 18 0) (said put (length (jobOf l .ins)) (jobOf l .lgk) (mergedOf (jobOf l) (merged .read)))) (sym (ne-eqb (jobOf l .lgk) 0 (λ z. a .some (same-size ∙ z))))
+      ∙ ap (λ (b : Bool). pick b (refusedText 18 0 0) (said put (length (jobOf l .ins)) (jobOf l .lgk) (mergedOf (jobOf l) (merged .read)))) (sym (ne-eqb (jobOf l .lgk) 0 (λ z. a .some (same-size ∙ z))))
 
   reported : (put : Bool) (new : List ℕ) (r : ℕ) → Holds new r (said put (p .files) (p .«lg_k») m) → Reported l new r
   reported put new r h =
@@ -179,7 +179,7 @@ module _ (l : List ℕ) (p : Places) (regs : List ℕ) (a : Asked l p regs) (o :
         holds = subst (λ (t : List ℕ). Holds new r t) (reports put) h;
       }
 
-  pub refused-reported : (m .no ≡ 0 → ⊥) → (new : List ℕ) (r : ℕ) → Holds new r (refusedText (m .no) (m .file)) → Reported l new r
+  pub refused-reported : (m .no ≡ 0 → ⊥) → (new : List ℕ) (r : ℕ) → Holds new r (refusedText (m .no) (m .place) (m .file)) → Reported l new r
   refused-reported n new r h = reported false new r (rw (ne-eqb (m .no) 0 n) h)
 
   pub merged-reported : m .no ≡ 0 → (new : List ℕ) (r : ℕ) → Finished (p .files) (p .«lg_k») (m .regs) new r → Reported l new r

@@ -1,5 +1,5 @@
 -- The outcomes of opening and merging. Assumes nothing.
-use mathlib.Core.Path.{_≡_, refl, sym, ap, _∙_}
+use mathlib.Core.Path.{_≡_, refl, sym, ap, ap₂, _∙_}
 use mathlib.Core.Bool.{Bool}
 use mathlib.Core.List.{List, [], _∷_}
 use Prim.Native.Nat.{ℕ, zero, suc, _≤_}
@@ -10,7 +10,7 @@ use lib.ListN.{length, take, replicate, length-replicate}
 use borrow.Author.Tests.{eq-eqb, ne-eqb}
 use Rattle.model.specs.Pick.{pick}
 use Rattle.model.specs.Sketch.{bytesOf}
-use Rattle.model.specs.Calls.{Out, out, refusedOut, mergeOf}
+use Rattle.model.specs.Calls.{Out, out, refusedAt, refusedOut, mergeOf}
 use Rattle.model.specs.Image.{sketchIn, openOf}
 use Rattle.model.specs.declared.Sketch.{Sketch}
 use Rattle.model.proofs.packing.Lengths.{bytes-within}
@@ -22,25 +22,25 @@ use Rattle.merge_job.specs.Promised.{Opened}
 use Rattle.merge_job.proofs.Filed.{Fits}
 
 module _ (t : Sketch) (tregs l : List ℕ) where
-  module _ {h : Header} (regs aux scratch : List ℕ) (lent : Opened l h regs aux scratch) (n : ℕ) (s : Sketch) (r a : List ℕ) (opened : out n s 0 r a ≡ openOf l regs aux scratch) where
-    is-opened : out n s 0 r a ≡ openedOf l
+  module _ {h : Header} (regs aux scratch : List ℕ) (lent : Opened l h regs aux scratch) (n p : ℕ) (s : Sketch) (r a : List ℕ) (opened : out n p s 0 r a ≡ openOf l regs aux scratch) where
+    is-opened : out n p s 0 r a ≡ openedOf l
     unfolding openedOf
     is-opened = let x = lent .regs-are in let y = lent .aux-is in let z = lent .scratch-is in opened ∙ (cc)
 
-    pub join-refused : (m : ℕ) → m ≡ n → (m ≡ 0 → ⊥) → refusedOut m t tregs [] ≡ joinOf t tregs l
+    pub join-refused : (m i : ℕ) → m ≡ n → i ≡ p → (m ≡ 0 → ⊥) → refusedAt m i t tregs [] ≡ joinOf t tregs l
     unfolding joinOf
-    join-refused m e h =
-        ap (λ (k : ℕ). refusedOut k t tregs []) e
-        ∙ ap (λ (b : Bool). pick b (mergeOf t tregs s r a) (refusedOut n t tregs [])) (sym (ne-eqb n 0 (λ z. h (e ∙ z))))
-        ∙ ap (λ (o : Out). pick (eqb (o .no) 0) (mergeOf t tregs (o .sketch) (o .regs) (o .aux)) (refusedOut (o .no) t tregs [])) is-opened
+    join-refused m i e q h =
+        ap₂ (λ (k j : ℕ). refusedAt k j t tregs []) e q
+        ∙ ap (λ (b : Bool). pick b (mergeOf t tregs s r a) (refusedAt n p t tregs [])) (sym (ne-eqb n 0 (λ z. h (e ∙ z))))
+        ∙ ap (λ (o : Out). pick (eqb (o .no) 0) (mergeOf t tregs (o .sketch) (o .regs) (o .aux)) (refusedAt (o .no) (o .place) t tregs [])) is-opened
 
-    pub join-merged : {m k : ℕ} {u : Sketch} {q : List ℕ} → m ≡ k → out k u 0 q [] ≡ mergeOf t tregs s r a → n ≡ 0 → out m u 0 q [] ≡ joinOf t tregs l
+    pub join-merged : {m i k j : ℕ} {u : Sketch} {q : List ℕ} → m ≡ k → i ≡ j → out k j u 0 q [] ≡ mergeOf t tregs s r a → n ≡ 0 → out m i u 0 q [] ≡ joinOf t tregs l
     unfolding joinOf
-    join-merged {u = u} {q = q} p merged e =
-        ap (λ (k : ℕ). out k u 0 q []) p
+    join-merged {u = u} {q = q} same-no same-place merged e =
+        ap₂ (λ (k j : ℕ). out k j u 0 q []) same-no same-place
         ∙ merged
-        ∙ ap (λ (b : Bool). pick b (mergeOf t tregs s r a) (refusedOut n t tregs [])) (sym (eq-eqb n 0 e))
-        ∙ ap (λ (o : Out). pick (eqb (o .no) 0) (mergeOf t tregs (o .sketch) (o .regs) (o .aux)) (refusedOut (o .no) t tregs [])) is-opened
+        ∙ ap (λ (b : Bool). pick b (mergeOf t tregs s r a) (refusedAt n p t tregs [])) (sym (eq-eqb n 0 e))
+        ∙ ap (λ (o : Out). pick (eqb (o .no) 0) (mergeOf t tregs (o .sketch) (o .regs) (o .aux)) (refusedAt (o .no) (o .place) t tregs [])) is-opened
 
   pub take-refused : (m : ℕ) → m ≡ fileNo l → (m ≡ 0 → ⊥) → refusedOut m t tregs [] ≡ takeOf t tregs l
   unfolding takeOf

@@ -10,7 +10,7 @@ use lib.ListN.{length, getD, take, drop, length-drop, length-append}
 use lib.Seq.{drop-drop, getD-drop}
 use borrow.Author.Tests.{eqb-false, eq-eqb, ne-eqb}
 use Rattle.model.specs.Pick.{pick}
-use Rattle.model.specs.Calls.{Out, out}
+use Rattle.model.specs.Calls.{Out, out, refusedOut}
 use Rattle.model.specs.declared.Sketch.{Sketch}
 use Rattle.text.specs.Text.{text}
 use Rattle.job.specs.Job.{pathIn, insIn, jobOf}
@@ -64,14 +64,14 @@ Came t tregs o = (f : File) × (o ≡ fileOf t tregs f)
 took-file : (t : Sketch) (tregs image : List ℕ) (o : Out) → TookSome t tregs image o → Came t tregs o
 took-file t tregs image o k = go (k .0 .failed) (k .1 .is)
   where
-    go : (b : Bool) → o ≡ pick b (out 19 t 0 tregs []) (takeOf t tregs (take (k .0 .n) image)) → Came t tregs o
+    go : (b : Bool) → o ≡ pick b (refusedOut 19 t tregs []) (takeOf t tregs (take (k .0 .n) image)) → Came t tregs o
     go true e = (unread, e)
     go false e = (came _ (k .1 .bytes), e)
 
 -- all that were read so far were merged
 pub record SoFar (t : Sketch) (tregs : List ℕ) (done : ℕ) (s : Sketch) (regs : List ℕ) : Type 0 where
   pub read : List File
-  pub is : merging 0 done s regs ≡ mergeAll 0 t tregs read
+  pub is : merging 0 0 done s regs ≡ mergeAll 0 t tregs read
   pub long : length read ≡ done
 
 pub none-yet : (t : Sketch) (tregs : List ℕ) → SoFar t tregs 0 t tregs
@@ -79,20 +79,20 @@ unfolding mergeAll
 none-yet t tregs = record { read = []; is = refl; long = refl }
 
 -- what comes of one more
-more : (i : ℕ) (t : Sketch) (tregs : List ℕ) (fs : List File) (f : File) (j : ℕ) (s : Sketch) (regs : List ℕ) → merging 0 j s regs ≡ mergeAll i t tregs fs → mergeAll i t tregs (fs ++ (f ∷ [])) ≡ mergeAll j s regs (f ∷ [])
+more : (i : ℕ) (t : Sketch) (tregs : List ℕ) (fs : List File) (f : File) (j : ℕ) (s : Sketch) (regs : List ℕ) → merging 0 0 j s regs ≡ mergeAll i t tregs fs → mergeAll i t tregs (fs ++ (f ∷ [])) ≡ mergeAll j s regs (f ∷ [])
 unfolding mergeAll
 more i t tregs [] f j s regs e = ap (λ (m : Merging). mergeAll (m .file) (m .sketch) (m .regs) (f ∷ [])) (sym e)
 more i t tregs (g ∷ fs) f j s regs e = go (fileOf t tregs g) (λ o. more (suc i) (o .sketch) (o .regs) fs f j s regs) (eqb (fileOf t tregs g .no) 0) refl e
   where
-    go : (o : Out) → ((o : Out) → merging 0 j s regs ≡ mergeAll (suc i) (o .sketch) (o .regs) fs → mergeAll (suc i) (o .sketch) (o .regs) (fs ++ (f ∷ [])) ≡ mergeAll j s regs (f ∷ [])) → (b : Bool) → eqb (o .no) 0 ≡ b
-        → merging 0 j s regs ≡ pick b (mergeAll (suc i) (o .sketch) (o .regs) fs) (merging (o .no) (suc i) (o .sketch) (o .regs))
-        → pick b (mergeAll (suc i) (o .sketch) (o .regs) (fs ++ (f ∷ []))) (merging (o .no) (suc i) (o .sketch) (o .regs)) ≡ mergeAll j s regs (f ∷ [])
+    go : (o : Out) → ((o : Out) → merging 0 0 j s regs ≡ mergeAll (suc i) (o .sketch) (o .regs) fs → mergeAll (suc i) (o .sketch) (o .regs) (fs ++ (f ∷ [])) ≡ mergeAll j s regs (f ∷ [])) → (b : Bool) → eqb (o .no) 0 ≡ b
+        → merging 0 0 j s regs ≡ pick b (mergeAll (suc i) (o .sketch) (o .regs) fs) (merging (o .no) (o .place) (suc i) (o .sketch) (o .regs))
+        → pick b (mergeAll (suc i) (o .sketch) (o .regs) (fs ++ (f ∷ []))) (merging (o .no) (o .place) (suc i) (o .sketch) (o .regs)) ≡ mergeAll j s regs (f ∷ [])
     go o ih true q e = ih o e
     go o ih false q e = absurd (eqb-false (o .no) 0 q (ap (λ (m : Merging). m .no) (sym e)))
 
-module _ (t : Sketch) (tregs : List ℕ) (done : ℕ) (s : Sketch) (regs : List ℕ) (so : SoFar t tregs done s regs) (n : ℕ) (u : Sketch) (q image : List ℕ) (some : TookSome s regs image (out n u 0 q [])) where
-  took : Came s regs (out n u 0 q [])
-  took = took-file s regs image (out n u 0 q []) some
+module _ (t : Sketch) (tregs : List ℕ) (done : ℕ) (s : Sketch) (regs : List ℕ) (so : SoFar t tregs done s regs) (n p : ℕ) (u : Sketch) (q image : List ℕ) (some : TookSome s regs image (out n p u 0 q [])) where
+  took : Came s regs (out n p u 0 q [])
+  took = took-file s regs image (out n p u 0 q []) some
 
   all : List File
   all = so .read ++ (took .0 ∷ [])
@@ -101,20 +101,20 @@ module _ (t : Sketch) (tregs : List ℕ) (done : ℕ) (s : Sketch) (regs : List 
   unfolding all
   all-long = length-append (so .read) (took .0 ∷ []) ∙ (let e = so .long in omega arith)
 
-  one : mergeAll 0 t tregs all ≡ pick (eqb n 0) (merging 0 (done + 1) u q) (merging n (done + 1) u q)
+  one : mergeAll 0 t tregs all ≡ pick (eqb n 0) (merging 0 0 (done + 1) u q) (merging n p (done + 1) u q)
   unfolding all mergeAll
   one =
       more 0 t tregs (so .read) (took .0) done s regs (so .is)
-      ∙ ap (λ (o : Out). pick (eqb (o .no) 0) (merging 0 (suc done) (o .sketch) (o .regs)) (merging (o .no) (suc done) (o .sketch) (o .regs))) (sym (took .1))
+      ∙ ap (λ (o : Out). pick (eqb (o .no) 0) (merging 0 0 (suc done) (o .sketch) (o .regs)) (merging (o .no) (o .place) (suc done) (o .sketch) (o .regs))) (sym (took .1))
       ∙ rw add-one
 
-  pub refused : (files : ℕ) → done < files → (n ≡ 0 → ⊥) → Merged files t tregs (merging n (done + 1) u q)
+  pub refused : (files : ℕ) → done < files → (n ≡ 0 → ⊥) → Merged files t tregs (merging n p (done + 1) u q)
   refused files due h =
       let e = all-long in
-      record { read = all; is = sym (one ∙ ap (λ (b : Bool). pick b (merging 0 (done + 1) u q) (merging n (done + 1) u q)) (ne-eqb n 0 h)); most = omega arith; whole = λ z. absurd (h z) }
+      record { read = all; is = sym (one ∙ ap (λ (b : Bool). pick b (merging 0 0 (done + 1) u q) (merging n p (done + 1) u q)) (ne-eqb n 0 h)); most = omega arith; whole = λ z. absurd (h z) }
 
   pub passed : n ≡ 0 → SoFar t tregs (done + 1) u q
-  passed z = record { read = all; is = sym (one ∙ ap (λ (b : Bool). pick b (merging 0 (done + 1) u q) (merging n (done + 1) u q)) (eq-eqb n 0 z)); long = all-long }
+  passed z = record { read = all; is = sym (one ∙ ap (λ (b : Bool). pick b (merging 0 0 (done + 1) u q) (merging n p (done + 1) u q)) (eq-eqb n 0 z)); long = all-long }
 
-pub ended : (t : Sketch) (tregs : List ℕ) (done : ℕ) (s : Sketch) (regs : List ℕ) (files : ℕ) → SoFar t tregs done s regs → files ≡ done → Merged files t tregs (merging 0 done s regs)
+pub ended : (t : Sketch) (tregs : List ℕ) (done : ℕ) (s : Sketch) (regs : List ℕ) (files : ℕ) → SoFar t tregs done s regs → files ≡ done → Merged files t tregs (merging 0 0 done s regs)
 ended t tregs done s regs files so e = let l = so .long in record { read = so .read; is = so .is; most = omega arith; whole = λ z. omega arith }

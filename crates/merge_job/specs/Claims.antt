@@ -7,6 +7,7 @@ use Prim.Native.Nat.{ℕ, _^_, _≤_}
 use lib.Dec.{eqb}
 use lib.ListN.{length, take}
 use Rattle.model.specs.Pick.{pick}
+use Rattle.model.specs.Answers.{placed}
 use Rattle.model.specs.Sketch.{registers}
 use Rattle.model.specs.Image.{imageIn, writeOf}
 use Rattle.model.specs.History.{Stands}
@@ -29,7 +30,7 @@ TextJob = (j : Job) → Fit j → jobOf (textOf j) ≡ j
 -- ---- the files
 -- the numbers that a file can get: not NO_ROOM, nor what speaks of the target, of lent memory or of the job
 abbrev pub answers : List ℕ
-answers = 0 ∷ 2 ∷ 5 ∷ 7 ∷ 8 ∷ 9 ∷ 10 ∷ 11 ∷ 12 ∷ 13 ∷ 14 ∷ 15 ∷ 17 ∷ 19 ∷ 20 ∷ []
+answers = 0 ∷ 2 ∷ 5 ∷ 7 ∷ 8 ∷ 9 ∷ 10 ∷ 11 ∷ 12 ∷ 14 ∷ 15 ∷ 17 ∷ 19 ∷ 20 ∷ 21 ∷ 22 ∷ 23 ∷ 24 ∷ 25 ∷ []
 
 -- a number stands in a list
 unfoldable pub among : ℕ → List ℕ → Bool
@@ -47,6 +48,10 @@ FileAnswers = (lgk : ℕ) (t : Sketch) (tregs : List ℕ) → Target lgk t tregs
 -- so NO_ROOM can't occur
 abbrev pub NeverNoRoom : Type 0
 NeverNoRoom = (lgk : ℕ) (t : Sketch) (tregs : List ℕ) → Target lgk t tregs → (f : File) → fileOf t tregs f .no ≡ 6 → ⊥
+
+-- and a place is named with 21 to 25 alone
+abbrev pub PlaceOnly : Type 0
+PlaceOnly = (t : Sketch) (tregs : List ℕ) (f : File) → placed (fileOf t tregs f .no) ≡ false → fileOf t tregs f .place ≡ 0
 
 -- files of which none is refused leave a target in good order, and its registers are those of all images joined
 abbrev pub AllKeep : Type 0

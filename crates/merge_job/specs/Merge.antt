@@ -8,7 +8,7 @@ use Rattle.model.specs.Pick.{pick, firstOf}
 use Rattle.model.specs.Packed.{Bytes}
 use Rattle.model.specs.Sketch.{bytesOf, registers}
 use Rattle.model.specs.Registers.{joined}
-use Rattle.model.specs.Calls.{Out, refusedOut, startOf, mergeOf}
+use Rattle.model.specs.Calls.{Out, refusedAt, refusedOut, startOf, mergeOf}
 use Rattle.model.specs.Image.{sketchIn, openOf, headerNo, formNo}
 use Rattle.model.specs.declared.Sketch.{Sketch}
 use Rattle.job.specs.Job.{Job, jobOf}
@@ -31,9 +31,9 @@ fileNo l = let s = sketchIn l in firstOf (frontNo l ∷ largeNo (s .kind) (s .«
 unfoldable pub openedOf : List ℕ → Out
 openedOf l = let s = sketchIn l in openOf l (replicate (bytesOf (s .kind) (s .«lg_k»)) 0) (replicate 8192 0) (replicate 8192 0)
 
--- opened and merged into the target, whose FINER comes last
+-- opened and merged into the target, whose FINER comes last; what opening says is handed on, number and place
 unfoldable pub joinOf : Sketch → List ℕ → List ℕ → Out
-joinOf t tregs l = let o = openedOf l in pick (eqb (o .no) 0) (mergeOf t tregs (o .sketch) (o .regs) (o .aux)) (refusedOut (o .no) t tregs [])
+joinOf t tregs l = let o = openedOf l in pick (eqb (o .no) 0) (mergeOf t tregs (o .sketch) (o .regs) (o .aux)) (refusedAt (o .no) (o .place) t tregs [])
 
 -- all of it
 unfoldable pub takeOf : Sketch → List ℕ → List ℕ → Out
@@ -50,21 +50,22 @@ abbrev pub fileOf : Sketch → List ℕ → File → Out
 fileOf t tregs unread = refusedOut 19 t tregs []
 fileOf t tregs (came l b) = takeOf t tregs l
 
--- what the files come to: a refusal's number and the position of its file; else 0 and how many they are. The record, the registers
+-- what the files come to: a refusal's number and place, and the position of its file; else 0 and how many they are. The record, the registers
 pub record Merging : Type 0 where
   pub no : ℕ
+  pub place : ℕ
   pub file : ℕ
   pub sketch : Sketch
   pub regs : List ℕ
 
 -- one, by its parts
-abbrev pub merging : ℕ → ℕ → Sketch → List ℕ → Merging
-merging n i t tregs = record { no = n; file = i; sketch = t; regs = tregs }
+abbrev pub merging : ℕ → ℕ → ℕ → Sketch → List ℕ → Merging
+merging n p i t tregs = record { no = n; place = p; file = i; sketch = t; regs = tregs }
 
 -- the files in turn, behind i others: the first refusal ends it
 unfoldable pub mergeAll : ℕ → Sketch → List ℕ → List File → Merging
-mergeAll i t tregs [] = merging 0 i t tregs
-mergeAll i t tregs (f ∷ fs) = let o = fileOf t tregs f in pick (eqb (o .no) 0) (mergeAll (suc i) (o .sketch) (o .regs) fs) (merging (o .no) (suc i) (o .sketch) (o .regs))
+mergeAll i t tregs [] = merging 0 0 i t tregs
+mergeAll i t tregs (f ∷ fs) = let o = fileOf t tregs f in pick (eqb (o .no) 0) (mergeAll (suc i) (o .sketch) (o .regs) fs) (merging (o .no) (o .place) (suc i) (o .sketch) (o .regs))
 
 -- the registers of an image
 unfoldable pub registersIn : List ℕ → List ℕ
@@ -87,5 +88,5 @@ reportOf l fs put =
     let j = jobOf l in
     let m = mergedOf j fs in
     pick (eqb (j .lgk) 0)
-    (refusedText 18 0)
-    (pick (eqb (m .no) 0) (pick put (mergedText (length (j .ins)) (j .lgk) (m .regs)) (refusedText 19 0)) (refusedText (m .no) (m .file)))
+    (refusedText 18 0 0)
+    (pick (eqb (m .no) 0) (pick put (mergedText (length (j .ins)) (j .lgk) (m .regs)) (refusedText 19 0 0)) (refusedText (m .no) (m .place) (m .file)))

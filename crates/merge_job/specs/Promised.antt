@@ -26,9 +26,9 @@ pub record Target (lgk : ℕ) (t : Sketch) (tregs : List ℕ) : Type 0 where
   pub size : t .«lg_k» ≡ lgk
   pub good : Good t tregs []
 
--- what became of the target: number, record, register bytes
+-- what became of the target: number, place, record, register bytes
 abbrev pub takenOut : Taken → List ℕ → Out
-takenOut r tregs = out (r .no) (r .sketch) 0 tregs []
+takenOut r tregs = out (r .no) (r .place) (r .sketch) 0 tregs []
 
 -- a file came to this, where the reader says whether it failed, and how many bytes are in the buffer: IO, or what these bytes come to
 pub record Took (t : Sketch) (tregs : List ℕ) (g : Got) (image : List ℕ) (o : Out) : Type 0 where
@@ -83,7 +83,7 @@ pub record Puts (l path image : List ℕ) : Type 0 where
 
 -- the first r bytes are the report of these registers, put in their place or not
 abbrev pub Finished : ℕ → ℕ → List ℕ → List ℕ → ℕ → Type 0
-Finished files lgk R new r = (put : Bool) × Holds new r (pick put (mergedText files lgk R) (refusedText 19 0))
+Finished files lgk R new r = (put : Bool) × Holds new r (pick put (mergedText files lgk R) (refusedText 19 0 0))
 
 -- the first r bytes are the report of a text, for some files: those that its job lists, or those up to the first that is refused
 pub record Reported (l new : List ℕ) (r : ℕ) : Type 0 where

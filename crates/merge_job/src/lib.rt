@@ -11,9 +11,10 @@ ghost use Rattle.job.specs.Job.{jobOf, placesOf};
 ghost use Rattle.merge_job.specs.Merge.{frontNo, largeNo, joinOf, takeOf, merging};
 ghost use Rattle.merge_job.specs.Promised.{takenOut, Took, TookSome, Merged, Lists, Opened, Asked, Whole, Puts, Finished, Reported};
 
-// The number of a refusal, or 0, and the target's record.
+// A refusal's number and place, or 0, and the target's record.
 pub struct Taken {
     pub no: u8,
+    pub place: u32,
     pub sketch: Sketch,
 }
 
@@ -57,7 +58,11 @@ fn join(
     let opened = made.answer;
     let no = model::number(opened);
     if no != 0 {
-        return Taken { no, sketch: target };
+        return Taken {
+            no,
+            place: model::place(opened),
+            sketch: target,
+        };
     }
     let source = made.sketch;
     let merged = sketch::merge(target, tregs, source, regs, aux);
@@ -65,6 +70,7 @@ fn join(
     let after = merged.sketch;
     Taken {
         no: model::number(answer),
+        place: model::place(answer),
         sketch: after,
     }
 }
@@ -77,6 +83,7 @@ pub fn take(target: Sketch, tregs: &mut [u8], image: &[u8]) -> Taken
     if front != 0 {
         return Taken {
             no: front,
+            place: 0,
             sketch: target,
         };
     }
@@ -85,6 +92,7 @@ pub fn take(target: Sketch, tregs: &mut [u8], image: &[u8]) -> Taken
     if large != 0 {
         return Taken {
             no: large,
+            place: 0,
             sketch: target,
         };
     }
@@ -111,6 +119,7 @@ fn take_got(target: Sketch, tregs: &mut [u8], got: Got, image: &[u8]) -> Taken
     if got.failed {
         return Taken {
             no: 19,
+            place: 0,
             sketch: target,
         };
     }
@@ -134,9 +143,10 @@ fn take_file(
     take_got(target, tregs, got, image)
 }
 
-// A refusal's number and the position of its file from 1, or 0 and the number of files; and the target's record.
+// A refusal's number and place and the position of its file from 1, or 0 and the number of files; and the target's record.
 pub struct Ran {
     pub no: u8,
+    pub place: u32,
     pub file: usize,
     pub sketch: Sketch,
 }
@@ -144,7 +154,7 @@ pub struct Ran {
 // The files of the `in=` lines from a place on, in turn.
 fn merge_all(target: Sketch, tregs: &mut [u8], job: &[u8], first: usize, files: usize) -> Ran
     requires { ⌜ Lists (now job) first files ⌝ }
-    ensures { λ r. ⌜ Merged files target (now (tregs .entry)) (merging (r .no) (r .file) (r .sketch) (now (tregs .exit))) ⌝ }
+    ensures { λ r. ⌜ Merged files target (now (tregs .entry)) (merging (r .no) (r .place) (r .file) (r .sketch) (now (tregs .exit))) ⌝ }
 {
     let mut image = [0u8; 40001];
     let mut sketch = target;
@@ -159,6 +169,7 @@ fn merge_all(target: Sketch, tregs: &mut [u8], job: &[u8], first: usize, files: 
         if taken.no != 0 {
             return Ran {
                 no: taken.no,
+                place: taken.place,
                 file: done + 1,
                 sketch,
             };
@@ -168,6 +179,7 @@ fn merge_all(target: Sketch, tregs: &mut [u8], job: &[u8], first: usize, files: 
     }
     Ran {
         no: 0,
+        place: 0,
         file: done,
         sketch,
     }
@@ -193,7 +205,7 @@ fn finish(sketch: Sketch, regs: &[u8], job: &[u8], places: Places, out: &mut [u8
     let end = from + n;
     let done = put(job, &job[from..end], &image[..len]);
     if !done {
-        return report::refused(19, 0, out);
+        return report::refused(19, 0, 0, out);
     }
     report::merged(places.files, places.lg_k, regs, out)
 }
@@ -207,7 +219,7 @@ fn run_in(regs: &mut [u8], job: &[u8], places: Places, out: &mut [u8; 160]) -> u
     let empty = made.sketch;
     let ran = merge_all(empty, regs, job, places.first, places.files);
     if ran.no != 0 {
-        return report::refused(ran.no, ran.file, out);
+        return report::refused(ran.no, ran.place, ran.file, out);
     }
     let all = ran.sketch;
     finish(all, regs, job, places, out)
@@ -219,7 +231,7 @@ pub fn run_job(job: &[u8], out: &mut [u8; 160]) -> usize
 {
     let places = job::parse(job);
     if places.lg_k == 0 {
-        return report::refused(18, 0, out);
+        return report::refused(18, 0, 0, out);
     }
     let mut regs = [0u8; 4096];
     let k = shape::bytes_of(8, places.lg_k);
@@ -239,7 +251,7 @@ pub fn run(from: i32, to: i32) {
     let mut out = [0u8; 160];
     let got = files::read_all(from, &mut job);
     if got.failed {
-        let n = report::refused(19, 0, &mut out);
+        let n = report::refused(19, 0, 0, &mut out);
         io::write_all(to, &out[..n]);
         return;
     }

@@ -1,7 +1,9 @@
 -- The claims of specs/Claims.antt, each with its proof. Assumes nothing.
-use Rattle.model.specs.Claims.{Demand1, Unchanged, Coincide, FeedKeeps, MergeKeeps, TwiceIsRoom, ExactSums, OpensGood, OpensAlike, OpensAs, ReadsOne, Reopens, Demand2, Demand3}
+use Rattle.model.specs.Claims.{Demand1, AuxNone, Unchanged, Coincide, FeedKeeps, MergeKeeps, TwiceIsRoom, ExactSums, OpensGood, OpensAlike, OpensAs, ReadsOne, Reopens, Demand2, Demand3}
 use Rattle.model.proofs.calls.Refused as refused
 use Rattle.model.proofs.calls.Named as named
+use Rattle.model.proofs.calls.Places as places
+use Rattle.model.proofs.image.Entries as entries
 use Rattle.model.proofs.histories.Demand1 as lines
 use Rattle.model.proofs.image.OpenLines as opening
 use Rattle.model.proofs.image.Opening.{open-good}
@@ -24,7 +26,13 @@ demand-1 = record {
   sums-lines = lines.sums-lines;
   write-lines = lines.write-lines;
   open-lines = opening.open-lines;
+  start-place = places.start-place;
+  feed-place = places.feed-place;
+  merge-place = places.merge-place;
 }
+
+pub aux-none : AuxNone
+aux-none = entries.aux-none
 
 pub unchanged : Unchanged
 unchanged = refused.unchanged

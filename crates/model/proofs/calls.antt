@@ -9,3 +9,4 @@ pub mod Refused
 pub mod Standing
 pub mod Doubles
 pub mod Named
+pub mod Places

@@ -1,7 +1,9 @@
 pub mod Opens
+pub mod Faults
 pub mod Entries
 pub mod Taken
 pub mod SameSlots
+pub mod SaidIn
 pub mod Opening
 pub mod OpenLines
 pub mod ImageFloors

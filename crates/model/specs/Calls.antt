@@ -1,4 +1,4 @@
--- What each call but write and open does, for every input: its answer's number, what it returns, and what lent memory then holds.
+-- What each call but write and open does, for every input: its answer's number and place, what it returns, and what lent memory then holds.
 -- Scratch is left out: it may hold anything.
 use Prim.Native.Nat.{ℕ, _^_}
 use mathlib.Core.Bool.{true}
@@ -7,7 +7,7 @@ use lib.Dec.{eqb, leb}
 use lib.Ieee.{Float}
 use lib.ListN.{length, replicate}
 use Rattle.model.specs.Pick.{pick, firstOf}
-use Rattle.model.specs.Answers.{numberOf}
+use Rattle.model.specs.Answers.{numberOf, placeOf}
 use Rattle.model.specs.Coupon.{value, home}
 use Rattle.model.specs.Registers.{raise, joined}
 use Rattle.model.specs.Table.{baseFor}
@@ -21,29 +21,34 @@ use Rattle.model.specs.declared.Answer.{Answer}
 use Rattle.model.specs.declared.Made.{Made}
 use Rattle.model.specs.declared.Fed.{Fed}
 
--- all that a call gives back which has a sketch: number, record, count, register bytes, exception area
+-- all that a call gives back which has a sketch: number, place, record, count, register bytes, exception area
 pub record Out : Type 0 where
   pub no : ℕ
+  pub place : ℕ
   pub sketch : Sketch
   pub count : ℕ
   pub regs : List ℕ
   pub aux : List ℕ
 
 -- one, by its parts
-abbrev pub out : ℕ → Sketch → ℕ → List ℕ → List ℕ → Out
-out n s k r a = record { no = n; sketch = s; count = k; regs = r; aux = a }
+abbrev pub out : ℕ → ℕ → Sketch → ℕ → List ℕ → List ℕ → Out
+out n p s k r a = record { no = n; place = p; sketch = s; count = k; regs = r; aux = a }
 
 -- what a call gives that makes a sketch, and the memory that it leaves
 abbrev pub madeOut : Made → List ℕ → List ℕ → Out
-madeOut r regs aux = out (numberOf (r .answer)) (r .sketch) 0 regs aux
+madeOut r regs aux = out (numberOf (r .answer)) (placeOf (r .answer)) (r .sketch) 0 regs aux
 
 -- the same of a batch
 abbrev pub fedOut : Fed → List ℕ → List ℕ → Out
-fedOut r regs aux = out (numberOf (r .answer)) (r .sketch) (r .taken) regs aux
+fedOut r regs aux = out (numberOf (r .answer)) (placeOf (r .answer)) (r .sketch) (r .taken) regs aux
 
--- a refused call: its number, and all as it was
+-- a refused call: its number and place, and all as it was
+abbrev pub refusedAt : ℕ → ℕ → Sketch → List ℕ → List ℕ → Out
+refusedAt n p s regs aux = out n p s 0 regs aux
+
+-- one that names no place
 abbrev pub refusedOut : ℕ → Sketch → List ℕ → List ℕ → Out
-refusedOut n s regs aux = out n s 0 regs aux
+refusedOut n s regs aux = refusedAt n 0 s regs aux
 
 -- the record that a refused call gives which makes one
 abbrev pub nothing : Sketch
@@ -55,7 +60,7 @@ refusedMade a = record { answer = a; sketch = nothing }
 
 -- a sketch of these registers and this table
 unfoldable pub keptOut : ℕ → ℕ → ℕ → ℕ → State → List ℕ → Out
-keptOut n kind lgk count a aux = out n (recordOf kind lgk (a .regs)) count (stored kind lgk (a .regs)) (areaOf kind (a .table) aux)
+keptOut n kind lgk count a aux = out n 0 (recordOf kind lgk (a .regs)) count (stored kind lgk (a .regs)) (areaOf kind (a .table) aux)
 
 -- start: an empty sketch
 unfoldable pub startOf : ℕ → ℕ → List ℕ → List ℕ → Out

@@ -1,32 +1,42 @@
 -- What is claimed of all this: the three demands, what a call leaves of any sketch in good order, and what an image is worth. proofs/Claims.antt has the proofs.
 use mathlib.Core.Path.{_≡_}
 use mathlib.Core.Logic.{_⊎_}
-use mathlib.Core.Bool.{true, false}
+use mathlib.Core.Bool.{Bool, true, false}
 use mathlib.Core.List.{List, [], List·Memᴰ}
 use Prim.Native.Nat.{ℕ, min, _+_, _*_, _-_, _/_, _%_, _^_, _<_, _≤_}
 use lib.IntN.{pos}
 use lib.Ieee.{Float, fin}
 use lib.Ieee.Exact.{HasValue}
 use lib.ListN.{length, getD, take}
-use Rattle.model.specs.Coupon.{value, home}
+use Rattle.model.specs.Coupon.{value, home, isEmpty}
 use Rattle.model.specs.Registers.{fed, joined, countOf}
 use Rattle.model.specs.Packed.{Bytes}
-use Rattle.model.specs.Table.{baseFor, tableSize, Member}
+use Rattle.model.specs.Table.{baseFor, tableSize, Member, filled}
 use Rattle.model.specs.Four.{NoRoom}
 use Rattle.model.specs.Sketch.{bytesOf, cells, registers, Good}
 use Rattle.model.specs.Sums.{scaled}
-use Rattle.model.specs.Calls.{Out, out, nothing, startOf, feedOf, Unpacked, unpackedTo, unpackOf, viewOf, mergeOf, Summed, summedTo, sumsOf}
-use Rattle.model.specs.Image.{imageIn, Written, wrote, writeOf, sketchIn, regsIn, compactIn, wordCount, entriesIn, openOf}
+use Rattle.model.specs.Calls.{Out, out, nothing, startOf, feedOf, unpackedTo, unpackOf, viewOf, mergeOf, Summed, summedTo, sumsOf}
+use Rattle.model.specs.Faults.{auxFault}
+use Rattle.model.specs.Image.{imageIn, wrote, writeOf, sketchIn, regsIn, compactIn, wordCount, wordsIn, entriesIn, openOf}
 use Rattle.model.specs.History.{here, Call, run}
-use Rattle.model.specs.Answers.{numberOf}
+use Rattle.model.specs.Answers.{numberOf, placeOf, Said, said}
 use Rattle.model.specs.declared.Answer.{Answer}
 use Rattle.model.specs.declared.Sketch.{Sketch}
 
 -- ---- demand 1: every call answers by the table
--- a line of the table: the answer is n unless Q holds; then the next line decides
-pub data Unless (n : ℕ) (Q : Type 0) (next : ℕ → Type 0) (answer : ℕ) : Type 0 where
+-- a line of the table: the answer, a number or what it says, is n unless Q holds; then the next line decides
+pub data Unless {A : Type 0} (n : A) (Q : Type 0) (next : A → Type 0) (answer : A) : Type 0 where
   refused : (Q → ⊥) → answer ≡ n → Unless n Q next answer
   passed : Q → next answer → Unless n Q next answer
+
+-- a line that names a place: the answer is n at the place where P holds; where it holds at none, the next line decides
+pub data Wherever (n : ℕ) (P : ℕ → Type 0) (next : Said → Type 0) (answer : Said) : Type 0 where
+  found : (i : ℕ) → P i → answer ≡ said n i → Wherever n P next answer
+  nowhere : ((i : ℕ) → P i → ⊥) → next answer → Wherever n P next answer
+
+-- lines for where Q holds
+abbrev pub Only : Type 0 → (Said → Type 0) → (Said → Type 0) → Said → Type 0
+Only Q lines next answer = (Q → lines answer) × ((Q → ⊥) → next answer)
 
 -- no line applies
 abbrev pub Ok : ℕ → Type 0
@@ -62,11 +72,54 @@ FeedLine s regs aux cs count answer =
     ((answer ≡ 0) × (count ≡ length cs) × GoesTo s regs aux cs count)
     ⊎ ((answer ≡ 6) × (count < length cs) × StopsAt s regs aux cs count × GoesTo s regs aux cs count)
 
+-- ---- an image's exception words, by their positions
+-- word i is an entry
+abbrev pub EntryAt : List ℕ → ℕ → Type 0
+EntryAt ws i = isEmpty (getD ws i 0) ≡ false
+
+-- it is empty, in the form that has no empty words
+abbrev pub EmptyAt : Bool → List ℕ → ℕ → Type 0
+EmptyAt compact ws i = (compact ≡ true) × (isEmpty (getD ws i 0) ≡ true)
+
+-- one of the first n words is an entry for slot h
+abbrev pub ListedAt : ℕ → List ℕ → ℕ → ℕ → Type 0
+ListedAt k ws n h = (j : ℕ) × (j < n) × EntryAt ws j × (home k (getD ws j 0) ≡ h)
+
+-- it is an entry for a slot that an entry before it is for
+abbrev pub TwiceAt : ℕ → List ℕ → ℕ → Type 0
+TwiceAt k ws i = EntryAt ws i × ListedAt k ws i (home k (getD ws i 0))
+
+-- it is an entry, and its value is no exception's
+abbrev pub LowAt : ℕ → List ℕ → ℕ → Type 0
+LowAt low ws i = EntryAt ws i × (value (getD ws i 0) < low + 15)
+
+-- nothing is wrong with it
+abbrev pub RightAt : Bool → ℕ → ℕ → List ℕ → ℕ → Type 0
+RightAt compact k low ws i = (EmptyAt compact ws i → ⊥) × ((TwiceAt k ws i → ⊥) × (LowAt low ws i → ⊥))
+
+-- nor with any word before it
+abbrev pub RightTo : Bool → ℕ → ℕ → List ℕ → ℕ → Type 0
+RightTo compact k low ws i = (j : ℕ) → j < i → RightAt compact k low ws j
+
+-- slot i is in exactly one of two sets: the nibbles that are 15, and the slots listed
+abbrev pub InOne : ℕ → List ℕ → List ℕ → ℕ → Type 0
+InOne k ws ns i = ((getD ns i 0 ≡ 15) × (ListedAt k ws (length ws) i → ⊥)) ⊎ ((getD ns i 0 ≡ 15 → ⊥) × ListedAt k ws (length ws) i)
+
+-- the lines of the exception words: AUX_EMPTY, AUX_TWICE and AUX_LOW, each at the earliest word that is wrong, in this order for one word; AUX_COUNT; AUX_MATCH at the smallest slot
+abbrev pub AuxLines : Bool → ℕ → ℕ → ℕ → List ℕ → List ℕ → (Said → Type 0) → Said → Type 0
+AuxLines compact k low count ws ns next =
+    Wherever 21 (λ i. (i < length ws) × (RightTo compact k low ws i × EmptyAt compact ws i))
+    (Wherever 22 (λ i. (i < length ws) × (RightTo compact k low ws i × TwiceAt k ws i))
+    (Wherever 23 (λ i. (i < length ws) × (RightTo compact k low ws i × ((TwiceAt k ws i → ⊥) × LowAt low ws i)))
+    (Unless (said 24 0) (length (filled ws) ≡ count)
+    (Wherever 25 (λ i. (i < k) × (InOne k ws ns i × ((j : ℕ) → j < i → InOne k ws ns j → ⊥)))
+    next))))
+
 -- a word is listed for slot i of k
 abbrev pub Listed : ℕ → List ℕ → ℕ → Type 0
 Listed k words i = (w : ℕ) × Member words w × (home k w ≡ i)
 
--- AUX: each entry's value is an exception's (so none is empty), no slot twice, as many as the count, and the slots listed are those of the nibbles 15
+-- what the entries are where nothing is wrong: each one's value is an exception's, no slot stands twice, there are as many as the count says, and the slots listed are those of the nibbles 15
 pub record Entries (s : Sketch) (nibbles words : List ℕ) : Type 0 where
   pub high : (i : ℕ) → i < length words → s .«cur_min» + 15 ≤ value (getD words i 0)
   pub apart : (i j : ℕ) → i < length words → j < length words → home (2 ^ s .«lg_k») (getD words i 0) ≡ home (2 ^ s .«lg_k») (getD words j 0) → i ≡ j
@@ -74,27 +127,32 @@ pub record Entries (s : Sketch) (nibbles words : List ℕ) : Type 0 where
   pub listed : (i : ℕ) → i < 2 ^ s .«lg_k» → Listed (2 ^ s .«lg_k») words i → getD nibbles i 0 ≡ 15
   pub lists : (i : ℕ) → i < 2 ^ s .«lg_k» → getD nibbles i 0 ≡ 15 → Listed (2 ^ s .«lg_k») words i
 
--- the lines of opening: SHORT, HEADER, MODE, LGK, SIZE, COUNTS, LGARR, SHORT, NO_ROOM, VALUE, AUX, SPARE, TALLY
-abbrev pub OpenLines : List ℕ → List ℕ → List ℕ → List ℕ → ℕ → Type 0
+-- the last lines of opening: SPARE, TALLY
+abbrev pub LastLines : List ℕ → Said → Type 0
+LastLines l =
+    let s = sketchIn l in
+    Unless (said 14 0) (s .kind ≡ 6 → getD (regsIn l) (length (regsIn l) - 1) 0 ≡ 0)
+    (Unless (said 15 0) ((s .«num_at_cur_min» ≡ countOf 0 (cells s (regsIn l))) × (s .kind ≡ 4 → 0 < s .«num_at_cur_min»))
+    (λ answer. answer ≡ said 0 0))
+
+-- the lines of opening: SHORT, HEADER, MODE, LGK, SIZE, COUNTS, LGARR, SHORT, NO_ROOM, VALUE, for kind 4 those of the exception words, and the last. A place is 0 but where a line names it
+abbrev pub OpenLines : List ℕ → List ℕ → List ℕ → List ℕ → Said → Type 0
 OpenLines l regs aux scratch =
     let s = sketchIn l in
     let k = 2 ^ s .«lg_k» in
     let ns = cells s (regsIn l) in
-    Unless 7 (40 ≤ length l)
-    (Unless 8 ((getD l 0 0 ≡ 10) × ((getD l 1 0 ≡ 1) × (getD l 2 0 ≡ 7)))
-    (Unless 9 ((getD l 7 0 ≡ 2) ⊎ ((getD l 7 0 ≡ 6) ⊎ (getD l 7 0 ≡ 10)))
-    (Unless 2 ((4 ≤ s .«lg_k») × (s .«lg_k» ≤ 21))
-    (Unless 3 (length regs ≡ bytesOf (s .kind) (s .«lg_k»))
-    (Unless 3 (Scratch (s .kind) aux scratch)
-    (Unless 10 ((s .«num_at_cur_min» ≤ k) × ((s .«aux_count» ≤ k) × ((s .«cur_min» ≤ 63) × ((s .kind ≡ 4 → ⊥) → (s .«cur_min» ≡ 0) × (s .«aux_count» ≡ 0)))))
-    (Unless 11 ((compactIn l ≡ true → ⊥) → (s .«aux_count» ≡ 0 → ⊥) → getD l 4 0 ≤ 22)
-    (Unless 7 (40 + bytesOf (s .kind) (s .«lg_k») + 4 * wordCount l ≤ length l)
-    (Unless 6 (tableSize (baseFor (s .«lg_k»)) (s .«aux_count») ≤ length aux)
-    (Unless 12 ((i : ℕ) → i < k → ((s .kind ≡ 4) × (getD ns i 0 ≡ 15) → ⊥) → s .«cur_min» + getD ns i 0 ≤ 63)
-    (Unless 13 (s .kind ≡ 4 → Entries s ns (entriesIn l))
-    (Unless 14 (s .kind ≡ 6 → getD (regsIn l) (length (regsIn l) - 1) 0 ≡ 0)
-    (Unless 15 ((s .«num_at_cur_min» ≡ countOf 0 ns) × (s .kind ≡ 4 → 0 < s .«num_at_cur_min»))
-    Ok)))))))))))))
+    Unless (said 7 0) (40 ≤ length l)
+    (Unless (said 8 0) ((getD l 0 0 ≡ 10) × ((getD l 1 0 ≡ 1) × (getD l 2 0 ≡ 7)))
+    (Unless (said 9 0) ((getD l 7 0 ≡ 2) ⊎ ((getD l 7 0 ≡ 6) ⊎ (getD l 7 0 ≡ 10)))
+    (Unless (said 2 0) ((4 ≤ s .«lg_k») × (s .«lg_k» ≤ 21))
+    (Unless (said 3 0) (length regs ≡ bytesOf (s .kind) (s .«lg_k»))
+    (Unless (said 3 0) (Scratch (s .kind) aux scratch)
+    (Unless (said 10 0) ((s .«num_at_cur_min» ≤ k) × ((s .«aux_count» ≤ k) × ((s .«cur_min» ≤ 63) × ((s .kind ≡ 4 → ⊥) → (s .«cur_min» ≡ 0) × (s .«aux_count» ≡ 0)))))
+    (Unless (said 11 0) ((compactIn l ≡ true → ⊥) → (s .«aux_count» ≡ 0 → ⊥) → getD l 4 0 ≤ 22)
+    (Unless (said 7 0) (40 + bytesOf (s .kind) (s .«lg_k») + 4 * wordCount l ≤ length l)
+    (Unless (said 6 0) (tableSize (baseFor (s .«lg_k»)) (s .«aux_count») ≤ length aux)
+    (Unless (said 12 0) ((i : ℕ) → i < k → ((s .kind ≡ 4) × (getD ns i 0 ≡ 15) → ⊥) → s .«cur_min» + getD ns i 0 ≤ 63)
+    (Only (s .kind ≡ 4) (AuxLines (compactIn l) k (s .«cur_min») (s .«aux_count») (wordsIn l) ns (LastLines l)) (LastLines l))))))))))))
 
 -- each refusal exactly when its line of the table says; lent registers are bytes
 pub record Demand1 : Type 0 where
@@ -109,24 +167,36 @@ pub record Demand1 : Type 0 where
   pub sums-lines : (s : Sketch) (regs aux : List ℕ) → Bytes regs → SketchLines (Unit {0}) s regs aux Ok (sumsOf s regs aux .no)
   pub write-lines : (s : Sketch) (regs aux buf : List ℕ) → Bytes regs
       → SketchLines (Unit {0}) s regs aux (Unless 16 (length (imageIn s regs aux) ≤ length buf) Ok) (writeOf s regs aux buf .no)
-  pub open-lines : (l regs aux scratch : List ℕ) → OpenLines l regs aux scratch (openOf l regs aux scratch .no)
+  pub open-lines : (l regs aux scratch : List ℕ) → let o = openOf l regs aux scratch in OpenLines l regs aux scratch (said (o .no) (o .place))
+  pub start-place : (kind lgk : ℕ) (regs aux : List ℕ) → startOf kind lgk regs aux .place ≡ 0
+  pub feed-place : (s : Sketch) (regs aux scratch cs : List ℕ) → feedOf s regs aux scratch cs .place ≡ 0
+  pub merge-place : (t : Sketch) (tregs : List ℕ) (s : Sketch) (sregs saux : List ℕ) → mergeOf t tregs s sregs saux .place ≡ 0
+
+-- nothing is wrong with exception words exactly where their entries are so, and in the compact form no word is empty
+pub record AuxNone : Type 0 where
+  pub entries : (compact : Bool) (s : Sketch) (ns ws : List ℕ) → auxFault compact (2 ^ s .«lg_k») (s .«cur_min») (s .«aux_count») ws ns .no ≡ 0
+      → Entries s ns (filled ws) × ((i : ℕ) → i < length ws → EmptyAt compact ws i → ⊥)
+  pub nothing : (compact : Bool) (s : Sketch) (ns ws : List ℕ) → Entries s ns (filled ws) → ((i : ℕ) → i < length ws → EmptyAt compact ws i → ⊥)
+      → auxFault compact (2 ^ s .«lg_k») (s .«cur_min») (s .«aux_count») ws ns ≡ said 0 0
 
 -- and then nothing lent changes, save that a batch stopped by NO_ROOM keeps the coupons that it took
 pub record Unchanged : Type 0 where
-  pub start-same : (kind lgk : ℕ) (regs aux : List ℕ) → let o = startOf kind lgk regs aux in (o .no ≡ 0 → ⊥) → o ≡ out (o .no) nothing 0 regs aux
-  pub feed-same : (s : Sketch) (regs aux scratch cs : List ℕ) → let o = feedOf s regs aux scratch cs in (o .no ≡ 0 → ⊥) → (o .no ≡ 6 → ⊥) → o ≡ out (o .no) s 0 regs aux
+  pub start-same : (kind lgk : ℕ) (regs aux : List ℕ) → let o = startOf kind lgk regs aux in (o .no ≡ 0 → ⊥) → o ≡ out (o .no) 0 nothing 0 regs aux
+  pub feed-same : (s : Sketch) (regs aux scratch cs : List ℕ) → let o = feedOf s regs aux scratch cs in (o .no ≡ 0 → ⊥) → (o .no ≡ 6 → ⊥) → o ≡ out (o .no) 0 s 0 regs aux
   pub unpack-same : (s : Sketch) (regs aux buf : List ℕ) → (unpackOf s regs aux buf .no ≡ 0 → ⊥) → unpackOf s regs aux buf .out ≡ buf
-  pub merge-same : (t : Sketch) (tregs : List ℕ) (s : Sketch) (sregs saux : List ℕ) → let o = mergeOf t tregs s sregs saux in (o .no ≡ 0 → ⊥) → o ≡ out (o .no) t 0 tregs []
+  pub merge-same : (t : Sketch) (tregs : List ℕ) (s : Sketch) (sregs saux : List ℕ) → let o = mergeOf t tregs s sregs saux in (o .no ≡ 0 → ⊥) → o ≡ out (o .no) 0 t 0 tregs []
   pub write-same : (s : Sketch) (regs aux buf : List ℕ) → let o = writeOf s regs aux buf in (o .no ≡ 0 → ⊥) → o ≡ wrote (o .no) 0 buf
-  pub open-same : (l regs aux scratch : List ℕ) → let o = openOf l regs aux scratch in (o .no ≡ 0 → ⊥) → o ≡ out (o .no) nothing 0 regs aux
+  pub open-same : (l regs aux scratch : List ℕ) → let o = openOf l regs aux scratch in (o .no ≡ 0 → ⊥) → o ≡ out (o .no) (o .place) nothing 0 regs aux
 
--- two results that meet one call's equation coincide, the answer by name: of start, feed, merge and open; of unpack; of view; of sums, whose answer is the number; of write
+-- two results that meet one call's equation coincide, the answer by name and place: of start, feed, merge and open; of unpack; of view; of sums, whose answer is the number; of write
 pub record Coincide : Type 0 where
-  pub made-same : (o : Out) (a b : Answer) (s t : Sketch) (c d : ℕ) (r q x y : List ℕ) → out (numberOf a) s c r x ≡ o → out (numberOf b) t d q y ≡ o → (a ≡ b) × ((s ≡ t) × ((c ≡ d) × ((r ≡ q) × (x ≡ y))))
-  pub unpacked-same : (o : Unpacked) (a b : Answer) (x y : List ℕ) → unpackedTo (numberOf a) x ≡ o → unpackedTo (numberOf b) y ≡ o → (a ≡ b) × (x ≡ y)
+  pub made-same : (o : Out) (a b : Answer) (s t : Sketch) (c d : ℕ) (r q x y : List ℕ) → out (numberOf a) (placeOf a) s c r x ≡ o → out (numberOf b) (placeOf b) t d q y ≡ o
+      → (a ≡ b) × ((s ≡ t) × ((c ≡ d) × ((r ≡ q) × (x ≡ y))))
+  pub unpacked-same : (s : Sketch) (regs aux buf : List ℕ) (a b : Answer) (x y : List ℕ) → unpackedTo (numberOf a) x ≡ unpackOf s regs aux buf → unpackedTo (numberOf b) y ≡ unpackOf s regs aux buf → (a ≡ b) × (x ≡ y)
   pub viewed-same : (s : Sketch) (regs x y : List ℕ) → x ≡ viewOf s regs → y ≡ viewOf s regs → x ≡ y
   pub summed-same : (o : Summed) (m n : ℕ) (x y u v : Float) → summedTo m x u ≡ o → summedTo n y v ≡ o → (m ≡ n) × ((x ≡ y) × (u ≡ v))
-  pub written-same : (o : Written) (a b : Answer) (m n : ℕ) (x y : List ℕ) → wrote (numberOf a) m x ≡ o → wrote (numberOf b) n y ≡ o → (a ≡ b) × ((m ≡ n) × (x ≡ y))
+  pub written-same : (s : Sketch) (regs aux buf : List ℕ) (a b : Answer) (m n : ℕ) (x y : List ℕ) → wrote (numberOf a) m x ≡ writeOf s regs aux buf → wrote (numberOf b) n y ≡ writeOf s regs aux buf
+      → (a ≡ b) × ((m ≡ n) × (x ≡ y))
 
 -- ---- over any sketch in good order, wherever it came from
 -- a sketch of this kind and size is in good order, and R are its registers

@@ -1,19 +1,20 @@
 -- The image of a sketch, and what write and open do for every input. Little-endian throughout: fields of 32 and 64 bits are packed cells.
 use Prim.Native.Nat.{ℕ, _+_, _*_, _/_, _%_, _^_}
-use mathlib.Core.Bool.{Bool, true, not}
+use mathlib.Core.Bool.{Bool, true}
 use mathlib.Core.List.{List, [], _∷_, _++_, map}
 use lib.Dec.{eqb, leb}
 use lib.Ieee.{binary64, toBits}
 use lib.ListN.{length, getD, take, drop}
-use Rattle.model.specs.Pick.{pick, both, all, firstOf}
-use Rattle.model.specs.Coupon.{value, home, word, isEmpty}
-use Rattle.model.specs.Registers.{countOf}
+use Rattle.model.specs.Pick.{pick, both, firstOf}
+use Rattle.model.specs.Answers.{Said, said, placed}
+use Rattle.model.specs.Coupon.{value, home, word}
 use Rattle.model.specs.Packed.{slotAt, unpacked, packed}
-use Rattle.model.specs.Table.{baseFor, tableSize, sifted, made}
+use Rattle.model.specs.Table.{baseFor, tableSize, filled, made}
+use Rattle.model.specs.Faults.{auxFault}
 use Rattle.model.specs.Sketch.{sketchOf, isKind, bytesOf, recordOf, stored, areaOf, cells, tableIn, registers}
 use Rattle.model.specs.Check.{countsFit, valuesFit, spareFits, tallyFits, lgkNo, sizeNo, scratchFits, checkNo}
 use Rattle.model.specs.Sums.{kxq0, kxq1}
-use Rattle.model.specs.Calls.{Out, out, refusedOut, nothing}
+use Rattle.model.specs.Calls.{Out, out, refusedAt, nothing}
 use Rattle.model.specs.declared.Sketch.{Sketch}
 
 -- ---- the layout
@@ -41,10 +42,6 @@ unfoldable pub imageOf : ℕ → ℕ → List ℕ → List ℕ → List ℕ
 imageOf kind lgk R words = header (recordOf kind lgk R) R ++ (stored kind lgk R ++ packed 32 (4 * length words) words)
 
 -- ---- write
--- the words that are not empty, in their order
-abbrev pub filled : List ℕ → List ℕ
-filled ws = sifted (λ w. not (isEmpty w)) ws
-
 -- the image of a sketch in good order: the exception words that are not empty, in table order
 unfoldable pub imageIn : Sketch → List ℕ → List ℕ → List ℕ
 imageIn s regs aux = imageOf (s .kind) (s .«lg_k») (registers s regs aux) (filled (tableIn s aux))
@@ -95,30 +92,19 @@ wordCount l = let count = sketchIn l .«aux_count» in pick (compactIn l) count 
 abbrev pub wordsIn : List ℕ → List ℕ
 wordsIn l = unpacked 32 (wordCount l) (drop (40 + bytesOf (sketchIn l .kind) (sketchIn l .«lg_k»)) l)
 
--- the entries among them: the second form passes over the empty ones
+-- the entries among them
 unfoldable pub entriesIn : List ℕ → List ℕ
-entriesIn l = pick (compactIn l) (wordsIn l) (filled (wordsIn l))
+entriesIn l = filled (wordsIn l)
 
 -- an entry as the table has it: its slot modulo k
 abbrev pub homed : ℕ → ℕ → ℕ
 homed k w = word (home k w) (value w)
 
--- no slot of k stands among those seen, or twice
-unfoldable pub noneTwice : ℕ → List ℕ → List ℕ → Bool
-noneTwice k seen [] = true
-noneTwice k seen (w ∷ ws) = both (eqb (countOf (home k w) seen) 0) (noneTwice k (home k w ∷ seen) ws)
-
--- each entry is high enough (so it is not empty) and its nibble is 15; no slot twice; as many as the count says, and as many nibbles of 15: so the two sets are one
-unfoldable pub auxFits : List ℕ → Bool
-auxFits l =
+-- what is wrong with the exception words of kind 4, if anything, and where
+unfoldable pub auxIn : List ℕ → Said
+auxIn l =
     let s = sketchIn l in
-    let nibbles = cells s (regsIn l) in
-    let es = entriesIn l in
-    let k = 2 ^ s .«lg_k» in
-    both (all (λ i. let w = getD es i 0 in both (leb (s .«cur_min» + 15) (value w)) (eqb (getD nibbles (home k w) 0) 15)) (length es))
-    (both (noneTwice k [] es)
-    (both (eqb (length es) (s .«aux_count»))
-    (eqb (countOf 15 nibbles) (s .«aux_count»))))
+    pick (eqb (s .kind) 4) (auxFault (compactIn l) (2 ^ s .«lg_k») (s .«cur_min») (s .«aux_count») (wordsIn l) (cells s (regsIn l))) (said 0 0)
 
 -- ---- opening's refusals, in document 01's order
 -- 7, 8: a header is there, and begins as every image does
@@ -148,13 +134,13 @@ countsNo l =
 unfoldable pub roomNo : ℕ → ℕ → ℕ → ℕ
 roomNo lgk count aux = pick (leb (tableSize (baseFor lgk) count) aux) 0 6
 
--- 12, 13, 14, 15: the registers and the exceptions
+-- 12, 21 to 25, 14, 15: the registers and the exceptions
 unfoldable pub bodyNo : List ℕ → ℕ
 bodyNo l =
     let s = sketchIn l in
     firstOf (
     pick (valuesFit s (regsIn l)) 0 12
-    ∷ pick (pick (eqb (s .kind) 4) (auxFits l) true) 0 13
+    ∷ auxIn l .no
     ∷ pick (spareFits s (regsIn l)) 0 14
     ∷ pick (tallyFits s (regsIn l)) 0 15
     ∷ []
@@ -174,11 +160,19 @@ openNo l regs aux scratch =
     ∷ []
     )
 
+-- the place of an answer: that of the exception words for 21 to 25
+unfoldable pub placeIn : List ℕ → ℕ → ℕ
+placeIn l n = pick (placed n) (auxIn l .place) 0
+
+-- both
+abbrev pub saidIn : List ℕ → ℕ → Said
+saidIn l n = said n (placeIn l n)
+
 -- open: the record and the register bytes of the image, and for kind 4 the table of its entries, inserted in the order listed
 unfoldable pub openOf : List ℕ → List ℕ → List ℕ → List ℕ → Out
 openOf l regs aux scratch =
     let s = sketchIn l in
     let n = openNo l (length regs) (length aux) (length scratch) in
     pick (eqb n 0)
-    (out 0 s 0 (regsIn l) (areaOf (s .kind) (made (baseFor (s .«lg_k»)) (map (homed (2 ^ s .«lg_k»)) (entriesIn l))) aux))
-    (refusedOut n nothing regs aux)
+    (out 0 0 s 0 (regsIn l) (areaOf (s .kind) (made (baseFor (s .«lg_k»)) (map (homed (2 ^ s .«lg_k»)) (entriesIn l))) aux))
+    (refusedAt n (placeIn l n) nothing regs aux)

@@ -10,6 +10,7 @@ pub mod Sketch
 pub mod Check
 pub mod Sums
 pub mod Calls
+pub mod Faults
 pub mod Image
 pub mod History
 pub mod Claims

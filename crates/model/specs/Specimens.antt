@@ -1,5 +1,6 @@
--- Document 01's specimens marked P, and two exception tables as the Rust makes them: one table, one claim, proved by computing.
+-- Document 01's specimens marked P, two exception tables as the Rust makes them, and document 02's faults of exception words: one table, one claim, proved by computing.
 use mathlib.Core.Path.{_≡_}
+use mathlib.Core.Bool.{Bool, true, false}
 use mathlib.Core.List.{List, [], _∷_, _++_, map}
 use Prim.Native.Nat.{ℕ, zero, suc}
 use lib.ListN.{length, take, replicate}
@@ -7,6 +8,7 @@ use Rattle.model.specs.Coupon.{word}
 use Rattle.model.specs.Sketch.{bytesOf}
 use Rattle.model.specs.Sums.{scaled}
 use Rattle.model.specs.Calls.{Out, startOf, feedOf, mergeOf}
+use Rattle.model.specs.Faults.{auxFault}
 use Rattle.model.specs.Image.{writeOf}
 
 -- slots s, s + 1, .., n of them, at v
@@ -28,7 +30,11 @@ imageFrom o = let w = writeOf (o .sketch) (o .regs) (o .aux) (replicate 200 3) i
 unfoldable pub recordFrom : Out → List ℕ
 recordFrom o = o .sketch .«cur_min» ∷ o .sketch .«num_at_cur_min» ∷ o .sketch .«aux_count» ∷ []
 
--- what is asked, and what document 01 says
+-- what is wrong with exception words of a kind 4 image, lg_k 4 and cur_min 0, in which the nibbles of slots 0 and 1 are 15: number and place
+unfoldable pub faultWith : Bool → ℕ → List ℕ → List ℕ
+faultWith compact count ws = let f = auxFault compact 16 0 count ws (15 ∷ 15 ∷ replicate 14 0) in f .no ∷ f .place ∷ []
+
+-- what is asked, and what the documents say
 pub record Specimen : Type 0 where
   pub found : List ℕ
   pub should : List ℕ
@@ -68,6 +74,15 @@ table =
     -- a rise that frees nothing reorders
     ∷ (fedWith 4 4 4 (word 7 40 ∷ word 3 40 ∷ []) .aux is (0xa0000003 ∷ 0 ∷ 0 ∷ 0xa0000007 ∷ []))
     ∷ (fedWith 4 4 4 (word 7 40 ∷ word 3 40 ∷ at 0 3 1 ++ at 4 3 1 ++ at 8 8 1) .aux is (0xa0000007 ∷ 0 ∷ 0 ∷ 0xa0000003 ∷ []))
+    -- document 02, request 1: good words in both forms; each of the five; the later of two, the earlier of two faults, words passed over, an entry behind the last that is counted
+    ∷ (faultWith true 2 (word 0 15 ∷ word 1 15 ∷ []) is (0 ∷ 0 ∷ []))
+    ∷ (faultWith false 2 (0 ∷ word 17 15 ∷ 0 ∷ word 0 15 ∷ []) is (0 ∷ 0 ∷ []))
+    ∷ (faultWith true 2 (word 0 15 ∷ word 1 0 ∷ []) is (21 ∷ 1 ∷ []))
+    ∷ (faultWith true 2 (word 0 15 ∷ word 16 14 ∷ []) is (22 ∷ 1 ∷ []))
+    ∷ (faultWith false 2 (0 ∷ word 0 14 ∷ word 0 15 ∷ []) is (23 ∷ 1 ∷ []))
+    ∷ (faultWith false 1 (word 0 15 ∷ word 1 15 ∷ word 0 15 ∷ []) is (22 ∷ 2 ∷ []))
+    ∷ (faultWith false 1 (word 0 15 ∷ 0 ∷ word 1 15 ∷ []) is (24 ∷ 0 ∷ []))
+    ∷ (faultWith true 2 (word 0 15 ∷ word 2 15 ∷ []) is (25 ∷ 1 ∷ []))
     ∷ []
 
 -- the claim: each is as it should be

@@ -1,12 +1,12 @@
 -- The exception table of kind 4: a list of words of which 0 is the empty one, searched by an odd stride.
 use mathlib.Core.Path.{_≡_}
-use mathlib.Core.Bool.{Bool, true}
+use mathlib.Core.Bool.{Bool, true, not}
 use mathlib.Core.List.{List, [], _∷_, _++_}
 use Prim.Native.Nat.{ℕ, suc, _+_, _-_, _*_, _/_, _%_, _^_, _≤_, _<_}
 use lib.Dec.{eqb, leb}
 use lib.ListN.{length, getD, set, replicate}
 use Rattle.model.specs.Pick.{pick, first}
-use Rattle.model.specs.Coupon.{value, slot}
+use Rattle.model.specs.Coupon.{value, slot, isEmpty}
 
 -- the base exponents for lg_k 0 to 26
 abbrev pub bases : List ℕ
@@ -89,6 +89,10 @@ sifted p (w ∷ ws) = let r = sifted p ws in pick (p w) (w ∷ r) r
 -- those whose value is at least the limit
 abbrev pub keeps : ℕ → List ℕ → List ℕ
 keeps limit ws = sifted (λ w. leb limit (value w)) ws
+
+-- the entries among words: those that are not empty, in their order
+abbrev pub filled : List ℕ → List ℕ
+filled ws = sifted (λ w. not (isEmpty w)) ws
 
 -- a table made of a list of words, from the base on, growing on the way; no words where there is none
 abbrev pub made : ℕ → List ℕ → List ℕ

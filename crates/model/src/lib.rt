@@ -1,6 +1,6 @@
 // The code of the book: the record of a sketch, the answers of the table of refusals, and what calls give. All else here is specs/ and proofs/.
 ghost use mathlib.Core.Path.{_≡_};
-ghost use Rattle.model.specs.Answers.{numberOf};
+ghost use Rattle.model.specs.Answers.{numberOf, placeOf};
 ghost use Rattle.model.specs.Calls.{refusedMade};
 
 // Any values may stand here: a call refuses what is not in good order.
@@ -12,6 +12,7 @@ pub struct Sketch {
     pub aux_count: u32,
 }
 
+// A case with a place carries it: an exception word's position, or a slot.
 pub enum Answer {
     Ok,
     Kind,
@@ -26,10 +27,14 @@ pub enum Answer {
     Counts,
     LgArr,
     Value,
-    Aux,
     Spare,
     Tally,
     Out,
+    AuxEmpty(u32),
+    AuxTwice(u32),
+    AuxLow(u32),
+    AuxCount,
+    AuxMatch(u32),
 }
 
 // What a call gives that makes a sketch or changes one by value.
@@ -79,9 +84,42 @@ pub fn number(a: Answer) -> u8
         Answer::Counts => 10,
         Answer::LgArr => 11,
         Answer::Value => 12,
-        Answer::Aux => 13,
         Answer::Spare => 14,
         Answer::Tally => 15,
         Answer::Out => 16,
+        Answer::AuxEmpty(_) => 21,
+        Answer::AuxTwice(_) => 22,
+        Answer::AuxLow(_) => 23,
+        Answer::AuxCount => 24,
+        Answer::AuxMatch(_) => 25,
+    }
+}
+
+// The answer's place, or 0.
+pub fn place(a: Answer) -> u32
+    ensures { λ r. ⌜ r ≡ placeOf a ⌝ }
+{
+    match a {
+        Answer::Ok => 0,
+        Answer::Kind => 0,
+        Answer::LgK => 0,
+        Answer::Size => 0,
+        Answer::Damaged => 0,
+        Answer::Finer => 0,
+        Answer::NoRoom => 0,
+        Answer::Short => 0,
+        Answer::Header => 0,
+        Answer::Mode => 0,
+        Answer::Counts => 0,
+        Answer::LgArr => 0,
+        Answer::Value => 0,
+        Answer::Spare => 0,
+        Answer::Tally => 0,
+        Answer::Out => 0,
+        Answer::AuxEmpty(i) => i,
+        Answer::AuxTwice(i) => i,
+        Answer::AuxLow(i) => i,
+        Answer::AuxCount => 0,
+        Answer::AuxMatch(s) => s,
     }
 }

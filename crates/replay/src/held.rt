@@ -131,6 +131,7 @@ fn size_in(image: &[u8]) -> usize {
 
 pub struct Opened {
     pub no: u8,
+    pub place: u32,
     pub held: Held,
 }
 
@@ -144,6 +145,7 @@ fn try_open(image: &[u8]) -> Opened {
     let sketch = made.sketch;
     Opened {
         no: model::number(answer),
+        place: model::place(answer),
         held: Held { sketch, regs, aux },
     }
 }
@@ -158,6 +160,15 @@ pub fn open(held: Held, image: &[u8]) -> Done {
 pub fn refuses(image: &[u8]) -> bool {
     let no = try_open(image).no;
     no != 0 && no != 3 && no != 6
+}
+
+// The number, the four bytes of the place, the image.
+pub fn answers(said: &[u8]) -> bool {
+    if said.len() < 5 {
+        return false;
+    }
+    let o = try_open(&said[5..]);
+    o.no == said[0] && o.place == hex::word(said[1], said[2], said[3], said[4])
 }
 
 // Into a slice, whose length is known after the call; unpack refuses any other length than k.

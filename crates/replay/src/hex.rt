@@ -68,7 +68,7 @@ pub fn bytes(line: &[u8], out: &mut [u8]) -> Said
     }
 }
 
-fn word(a: u8, b: u8, c: u8, d: u8) -> u32 {
+pub fn word(a: u8, b: u8, c: u8, d: u8) -> u32 {
     ((a as u32 * 256 + b as u32) * 256 + c as u32) * 256 + d as u32
 }
 

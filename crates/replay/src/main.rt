@@ -1,5 +1,5 @@
 // Replays the original Rust's answers, kept in data/, through the public calls, so that a test needs no Rust. `oracle replay` made the
-// list. What is compared is counted and printed; no contract says what a list holds, so each function is proved safe and ending.
+// list, and `oracle places` one of document 02's answers to images, which the Rust does not number. What is compared is counted and printed; no contract says what a list holds, so each function is proved safe and ending.
 //
 // A line is a capital letter, which says what to do with the sketch at hand, then bytes as pairs of the digits 0-9 and a-f with nothing
 // between, then a line feed. A word is four bytes, highest first; an image's bytes stand in their order. Another sketch waits aside.
@@ -14,6 +14,7 @@
 //     I BYTE..      its image is this, bytes 5 and 8 to 15 not compared
 //     J BYTE..      the same of a sketch that was opened: 16 to 31 are not compared either, since the Rust keeps what it read there
 //     X BYTE..      this image is refused; the sketch stays as it is
+//     A NO PLACE BYTE..   this image has this answer, a byte, at this place, a word; 0 and 0 if it opens. The sketch stays as it is
 //
 // A line that says something else than our calls counts as one difference, and so does one that can't be read.
 mod held;
@@ -48,6 +49,7 @@ fn tells(letter: u8, said: &[u8], held: Held) -> bool {
         b'I' => held::has_image(held, said, 16),
         b'J' => held::has_image(held, said, 32),
         b'X' => held::refuses(said),
+        b'A' => held::answers(said),
         _ => false,
     }
 }
@@ -147,5 +149,6 @@ fn replay(path: &[u8]) {
 
 fn main() {
     replay(b"answers");
+    replay(b"places");
     replay(b"wrong");
 }

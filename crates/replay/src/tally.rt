@@ -5,6 +5,7 @@ pub struct Tally {
     pub batches: u64,
     pub opens: u64,
     pub refusals: u64,
+    pub places: u64,
     pub merges: u64,
     pub registers: u64,
     pub words: u64,
@@ -19,6 +20,7 @@ pub fn none() -> Tally {
         batches: 0,
         opens: 0,
         refusals: 0,
+        places: 0,
         merges: 0,
         registers: 0,
         words: 0,
@@ -61,6 +63,7 @@ fn agreeing(mut t: Tally, letter: u8, n: usize) -> Tally {
         b'F' => t.batches = plus(t.batches, 1),
         b'O' => t.opens = plus(t.opens, 1),
         b'X' => t.refusals = plus(t.refusals, 1),
+        b'A' => t.places = plus(t.places, 1),
         b'M' => t.merges = plus(t.merges, 1),
         b'R' => t.registers = plus(t.registers, n),
         b'T' => t.words = plus(t.words, n / 4),
@@ -85,6 +88,7 @@ pub fn report(t: Tally) {
     show(b"batches=", t.batches);
     show(b"opens=", t.opens);
     show(b"refusals=", t.refusals);
+    show(b"places=", t.places);
     show(b"merges=", t.merges);
     show(b"registers=", t.registers);
     show(b"table_words=", t.words);

@@ -1,4 +1,4 @@
--- The laws of names: those that the code keeps with spaces behind them are the answers', and none is longer than 7 bytes. Assumes nothing.
+-- The laws of names: those that the code keeps with spaces behind them are the answers', and none is longer than 9 bytes. Assumes nothing.
 use mathlib.Core.Path.{_≡_, refl, sym, ap, _∙_}
 use mathlib.Core.Bool.{Bool, true, _&&_, and-eq-true-iff}
 use mathlib.Core.List.{List, [], _∷_, _++_, map, append-assoc, append-nil}
@@ -15,29 +15,29 @@ use Rattle.report.specs.Trimmed.{trimmed}
 
 -- a name with spaces behind it
 unfoldable pub padded : List ℕ → List ℕ
-padded s = s ++ replicate (7 - length s) 32
+padded s = s ++ replicate (9 - length s) 32
 
 -- what the table has is the name, but for spaces
 pub padded-names : (code : ℕ) → trimmed (getD (map padded names) code []) ≡ nameOf code
 unfolding nameOf trimmed padded
 padded-names code = sym (List·getD-map trimmed (map padded names) code [])
 
-pub no-name : (code : ℕ) → 20 < code → nameOf code ≡ []
+pub no-name : (code : ℕ) → 25 < code → nameOf code ≡ []
 unfolding nameOf
 no-name code h = List·getD-eq-default names [] h
 
--- no name is longer than 7 bytes
+-- no name is longer than 9 bytes
 all-short : List (List ℕ) → Bool
 all-short [] = true
-all-short (s ∷ l) = leb (length s) 7 && all-short l
+all-short (s ∷ l) = leb (length s) 9 && all-short l
 
-each-short : (l : List (List ℕ)) → all-short l ≡ true → (i : ℕ) → length (getD l i []) ≤ 7
+each-short : (l : List (List ℕ)) → all-short l ≡ true → (i : ℕ) → length (getD l i []) ≤ 9
 unfolding all-short
 each-short [] t i = zero-le
-each-short (s ∷ l) t zero = leb-true (length s) 7 (and-eq-true-iff (leb (length s) 7) (all-short l) .0 t .0)
-each-short (s ∷ l) t (suc i) = each-short l (and-eq-true-iff (leb (length s) 7) (all-short l) .0 t .1) i
+each-short (s ∷ l) t zero = leb-true (length s) 9 (and-eq-true-iff (leb (length s) 9) (all-short l) .0 t .0)
+each-short (s ∷ l) t (suc i) = each-short l (and-eq-true-iff (leb (length s) 9) (all-short l) .0 t .1) i
 
-pub name-few : (code : ℕ) → length (nameOf code) ≤ 7
+pub name-few : (code : ℕ) → length (nameOf code) ≤ 9
 unfolding nameOf all-short
 name-few code = each-short names refl code
 

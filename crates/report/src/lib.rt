@@ -6,47 +6,52 @@ ghost use Prim.Native.Nat.{_+_, _≤_, _<_};
 ghost use lib.ListN.{length};
 ghost use Rattle.sums.specs.Tally.{Registers};
 ghost use Rattle.text.specs.Text.{text, decimal, line, Written, Holds};
-ghost use Rattle.report.specs.Report.{nameOf, most, refusedText, mergedText};
+ghost use Rattle.report.specs.Report.{nameOf, most, placeText, refusedText, mergedText};
 ghost use Rattle.report.specs.Trimmed.{trimmed};
 
-// The answers' names by their numbers, with spaces behind them.
-const NAMES: [[u8; 7]; 21] = [
-    *b"OK     ",
-    *b"KIND   ",
-    *b"LGK    ",
-    *b"SIZE   ",
-    *b"DAMAGED",
-    *b"FINER  ",
-    *b"NO_ROOM",
-    *b"SHORT  ",
-    *b"HEADER ",
-    *b"MODE   ",
-    *b"COUNTS ",
-    *b"LGARR  ",
-    *b"VALUE  ",
-    *b"AUX    ",
-    *b"SPARE  ",
-    *b"TALLY  ",
-    *b"OUT    ",
-    *b"LONG   ",
-    *b"JOB    ",
-    *b"IO     ",
-    *b"LARGE  ",
+// The answers' names by their numbers, with spaces behind them. Number 13 is not used.
+const NAMES: [[u8; 9]; 26] = [
+    *b"OK       ",
+    *b"KIND     ",
+    *b"LGK      ",
+    *b"SIZE     ",
+    *b"DAMAGED  ",
+    *b"FINER    ",
+    *b"NO_ROOM  ",
+    *b"SHORT    ",
+    *b"HEADER   ",
+    *b"MODE     ",
+    *b"COUNTS   ",
+    *b"LGARR    ",
+    *b"VALUE    ",
+    *b"         ",
+    *b"SPARE    ",
+    *b"TALLY    ",
+    *b"OUT      ",
+    *b"LONG     ",
+    *b"JOB      ",
+    *b"IO       ",
+    *b"LARGE    ",
+    *b"AUX_EMPTY",
+    *b"AUX_TWICE",
+    *b"AUX_LOW  ",
+    *b"AUX_COUNT",
+    *b"AUX_MATCH",
 ];
 
-fn name_at(code: u8) -> [u8; 7]
-    requires { ⌜ code < 21 ⌝ }
+fn name_at(code: u8) -> [u8; 9]
+    requires { ⌜ code < 26 ⌝ }
     ensures { λ r. ⌜ trimmed r ≡ nameOf code ⌝ }
 {
     NAMES[code as usize]
 }
 
 // Where the spaces begin.
-fn name_len(name: [u8; 7]) -> usize
+fn name_len(name: [u8; 9]) -> usize
     ensures { λ r. ⌜ Holds name r (trimmed name) ⌝ }
 {
     let mut n = 0;
-    while n < 7 {
+    while n < 9 {
         if name[n] == b' ' {
             return n;
         }
@@ -56,10 +61,10 @@ fn name_len(name: [u8; 7]) -> usize
 }
 
 fn put_name(out: &mut [u8], at: usize, code: u8) -> usize
-    requires { ⌜ at + 7 ≤ length (now out) ⌝ }
+    requires { ⌜ at + 9 ≤ length (now out) ⌝ }
     ensures { λ r. ⌜ Written (now (out .entry)) at (nameOf code) (now (out .exit)) r ⌝ }
 {
-    if 20 < code {
+    if 25 < code {
         return at;
     }
     let name = name_at(code);
@@ -79,12 +84,26 @@ fn put_line(out: &mut [u8], at: usize, key: &[u8], n: u64) -> usize
 
 // The first line.
 fn put_answer(out: &mut [u8], code: u8) -> usize
-    requires { ⌜ 15 ≤ length (now out) ⌝ }
+    requires { ⌜ 17 ≤ length (now out) ⌝ }
     ensures { λ r. ⌜ Written (now (out .entry)) 0 (line (text "answer=") (nameOf code)) (now (out .exit)) r ⌝ }
 {
     let name = put(out, 0, b"answer=");
     let end = put_name(out, name, code);
     put(out, end, b"\n")
+}
+
+// The line that only answers about exception words have.
+fn put_place(out: &mut [u8], at: usize, code: u8, place: u32) -> usize
+    requires { ⌜ at + 17 ≤ length (now out) ⌝ }
+    ensures { λ r. ⌜ Written (now (out .entry)) at (placeText code place) (now (out .exit)) r ⌝ }
+{
+    if code < 21 {
+        return at;
+    }
+    if 25 < code {
+        return at;
+    }
+    put_line(out, at, b"place=", place as u64)
 }
 
 fn most_of(regs: &[u8]) -> u8
@@ -99,13 +118,14 @@ fn most_of(regs: &[u8]) -> u8
     seen
 }
 
-// A refusal. No report is longer than 139 bytes.
-pub fn refused(code: u8, file: usize, out: &mut [u8; 160]) -> usize
-    ensures { λ r. ⌜ Holds (now (out .exit)) r (refusedText code file) ⌝ }
+// A refusal. No report is longer than 141 bytes.
+pub fn refused(code: u8, place: u32, file: usize, out: &mut [u8; 160]) -> usize
+    ensures { λ r. ⌜ Holds (now (out .exit)) r (refusedText code place file) ⌝ }
 {
     let second = put_answer(out, code);
     let third = put_line(out, second, b"code=", code as u64);
-    put_line(out, third, b"file=", file as u64)
+    let fourth = put_line(out, third, b"file=", file as u64);
+    put_place(out, fourth, code, place)
 }
 
 // The zeros and the two sums come from the sixty-four counts.

@@ -12,7 +12,7 @@ use Rattle.model.specs.Registers.{fed, joined, countOf}
 use Rattle.model.specs.Packed.{Bytes, unpacked}
 use Rattle.model.specs.Sketch.{sketchOf, areaOf, floors, tableIn, registers, Good}
 use Rattle.model.specs.Check.{checkNo}
-use Rattle.model.specs.Calls.{out, refusedOut, keptOut, eightNo, mergeNo, mergeOf}
+use Rattle.model.specs.Calls.{out, refusedAt, refusedOut, keptOut, eightNo, mergeNo, mergeOf}
 use Rattle.model.specs.declared.Sketch.{Sketch}
 use Rattle.model.proofs.packing.ByteLists.{at-all}
 use Rattle.model.proofs.registers.Raising.{Small, length-poured, poured-small}
@@ -69,19 +69,19 @@ pub record Accepted (t : Sketch) (tregs : List ℕ) (s : Sketch) (sregs saux : L
   pub sbytes : Bytes sregs
 
 module _ (t : Sketch) (tregs : List ℕ) (s : Sketch) (sregs saux : List ℕ) where
-  merge-no : {n : ℕ} → n ≡ mergeNo t tregs s sregs saux → (n ≡ 0 → ⊥) → refusedOut n t tregs [] ≡ mergeOf t tregs s sregs saux
+  merge-no : {n p : ℕ} → n ≡ mergeNo t tregs s sregs saux → p ≡ 0 → (n ≡ 0 → ⊥) → refusedAt n p t tregs [] ≡ mergeOf t tregs s sregs saux
   unfolding mergeOf
-  merge-no {n} e h = rw (← e, ne-eqb n 0 h)
+  merge-no {n} e z h = rw (← e, z, ne-eqb n 0 h)
 
-  pub merge-target : {n : ℕ} → n ≡ eightNo t tregs → (n ≡ 0 → ⊥) → refusedOut n t tregs [] ≡ mergeOf t tregs s sregs saux
-  merge-target e h = merge-no (no-target t tregs s sregs saux e h) h
+  pub merge-target : {n p : ℕ} → n ≡ eightNo t tregs → p ≡ 0 → (n ≡ 0 → ⊥) → refusedAt n p t tregs [] ≡ mergeOf t tregs s sregs saux
+  merge-target e z h = merge-no (no-target t tregs s sregs saux e h) z h
 
   module _ (target : eightNo t tregs ≡ 0) where
-    pub merge-source : {n : ℕ} → n ≡ checkNo true s sregs saux → (n ≡ 0 → ⊥) → refusedOut n t tregs [] ≡ mergeOf t tregs s sregs saux
-    merge-source e h = merge-no (no-source t tregs s sregs saux target e h) h
+    pub merge-source : {n p : ℕ} → n ≡ checkNo true s sregs saux → p ≡ 0 → (n ≡ 0 → ⊥) → refusedAt n p t tregs [] ≡ mergeOf t tregs s sregs saux
+    merge-source e z h = merge-no (no-source t tregs s sregs saux target e h) z h
 
     pub merge-finer : checkNo true s sregs saux ≡ 0 → s .«lg_k» < t .«lg_k» → refusedOut 5 t tregs [] ≡ mergeOf t tregs s sregs saux
-    merge-finer source h = merge-no (no-finer t tregs s sregs saux target source h) (λ e. omega arith)
+    merge-finer source h = merge-no (no-finer t tregs s sregs saux target source h) refl (λ e. omega arith)
 
 module _ {t : Sketch} {tregs : List ℕ} {s : Sketch} {sregs saux : List ℕ} (ok : Accepted t tregs s sregs saux) where
   of-target : Good t tregs []
@@ -115,7 +115,7 @@ module _ {t : Sketch} {tregs : List ℕ} {s : Sketch} {sregs saux : List ℕ} (o
         let one : 1 * length after ≡ length after = omega arith in
         e ∙ ap (countOf 0) (ap (λ (n : ℕ). unpacked 8 n after) one ∙ unpacked-8 after (at-all after (omega arith) (λ i l. omega (arith, after-small i l))))
 
-    pub merge-ok : {r : Sketch} {zeros : ℕ} → zeros ≡ countOf 0 (unpacked 8 (1 * length after) after) → r ≡ sketchOf 8 (t .«lg_k») 0 zeros 0 → out 0 r 0 after [] ≡ mergeOf t tregs s sregs saux
+    pub merge-ok : {r : Sketch} {zeros : ℕ} → zeros ≡ countOf 0 (unpacked 8 (1 * length after) after) → r ≡ sketchOf 8 (t .«lg_k») 0 zeros 0 → out 0 0 r 0 after [] ≡ mergeOf t tregs s sregs saux
     unfolding mergeOf keptOut areaOf
     merge-ok {r} {zeros} e q =
         let kept = eight-kept (t .«lg_k») zeros after after-small after-long (after-zeros e) in

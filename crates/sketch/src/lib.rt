@@ -9,10 +9,9 @@ ghost use mathlib.Core.Bool.{true};
 ghost use mathlib.Core.List.{[]};
 ghost use mathlib.Core.Logic.{_⊎_};
 ghost use Prim.Native.Nat.{_^_};
-ghost use lib.Dec.{eqb, leb};
+ghost use lib.Dec.{eqb};
 ghost use lib.ListN.{length};
-ghost use Rattle.model.specs.Answers.{numberOf};
-ghost use Rattle.model.specs.Pick.{pick};
+ghost use Rattle.model.specs.Answers.{numberOf, said, saidOf};
 ghost use Rattle.model.specs.Registers.{fed, joined};
 ghost use Rattle.model.specs.Sketch.{sketchOf, areaOf, registers};
 ghost use Rattle.model.specs.Calls.{madeOut, fedOut, startOf, feedOf, unpackedTo, unpackOf, eightNo, viewOf, mergeOf};
@@ -97,7 +96,7 @@ fn feed_plain(s: Sketch, regs: &mut [u8], coupons: &[u32]) -> Sketch
 // A batch's own answer: all coupons were taken, or one found no room.
 fn batch_answer(no: u8) -> Answer
     requires { ⌜ (no ≡ 0) ⊎ (no ≡ 6) ⌝ }
-    ensures { λ r. ⌜ numberOf r ≡ no ⌝ }
+    ensures { λ r. ⌜ saidOf r ≡ said no 0 ⌝ }
 {
     if no == 0 {
         return Answer::Ok;

@@ -3,7 +3,7 @@ use model::Answer;
 use model::Fed;
 use model::Sketch;
 ghost use mathlib.Core.Path.{_≡_};
-ghost use Rattle.model.specs.Answers.{numberOf};
+ghost use Rattle.model.specs.Answers.{numberOf, placeOf};
 ghost use Rattle.model.specs.Calls.{out, fedOut, feedOf};
 
 pub struct FedInPlace {
@@ -18,7 +18,7 @@ pub fn feed_in_place(
     scratch: &mut [u32],
     coupons: &[u32],
 ) -> FedInPlace
-    ensures { λ r. ⌜ out (numberOf (r .answer)) (now (sketch .exit)) (r .taken) (now (regs .exit)) (now (aux .exit)) ≡ feedOf (now (sketch .entry)) (now (regs .entry)) (now (aux .entry)) (now (scratch .entry)) (now (coupons .entry)) ⌝ }
+    ensures { λ r. ⌜ out (numberOf (r .answer)) (placeOf (r .answer)) (now (sketch .exit)) (r .taken) (now (regs .exit)) (now (aux .exit)) ≡ feedOf (now (sketch .entry)) (now (regs .entry)) (now (aux .entry)) (now (scratch .entry)) (now (coupons .entry)) ⌝ }
 {
     let f = sketch::feed(*sketch, regs, aux, scratch, coupons);
     *sketch = f.sketch;

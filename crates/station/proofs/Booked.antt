@@ -38,12 +38,12 @@ totalsFrom s = record { answer = s .no; low = toBits binary64 (s .low); high = t
 
 -- the table
 pub record Booked : Type 0 where
-  pub starts-8 : start8 ≡ out 0 (sketchOf 8 4 0 16 0) 0 (replicate 16 0) (replicate 1 9)
-  pub feeds-8 : fedTo start8 (replicate 1 5) three-at-five ≡ out 0 (eight .sketch) 1 (eight .regs) (replicate 1 9)
-  pub starts-4 : start4 ≡ out 0 (sketchOf 4 4 0 16 0) 0 (replicate 8 0) (replicate 8 0)
-  pub feeds-4 : fedTo start4 (replicate 8 5) zero-at-fifteen ≡ out 0 (four .sketch) 1 (four .regs) (four .aux)
-  pub merges : mergeOf (eight .sketch) (eight .regs) (four .sketch) (four .regs) (four .aux) ≡ out 0 (joined .sketch) 0 (joined .regs) []
-  pub refuses : feedOf odd (joined .regs) (replicate 1 9) (replicate 1 5) (three-at-five ∷ []) ≡ out 1 odd 0 (joined .regs) (replicate 1 9)
+  pub starts-8 : start8 ≡ out 0 0 (sketchOf 8 4 0 16 0) 0 (replicate 16 0) (replicate 1 9)
+  pub feeds-8 : fedTo start8 (replicate 1 5) three-at-five ≡ out 0 0 (eight .sketch) 1 (eight .regs) (replicate 1 9)
+  pub starts-4 : start4 ≡ out 0 0 (sketchOf 4 4 0 16 0) 0 (replicate 8 0) (replicate 8 0)
+  pub feeds-4 : fedTo start4 (replicate 8 5) zero-at-fifteen ≡ out 0 0 (four .sketch) 1 (four .regs) (four .aux)
+  pub merges : mergeOf (eight .sketch) (eight .regs) (four .sketch) (four .regs) (four .aux) ≡ out 0 0 (joined .sketch) 0 (joined .regs) []
+  pub refuses : feedOf odd (joined .regs) (replicate 1 9) (replicate 1 5) (three-at-five ∷ []) ≡ out 1 0 odd 0 (joined .regs) (replicate 1 9)
   pub low : T (not (isNan (sums .low)))
   pub high : T (not (isNan (sums .high)))
   pub bits : totalsFrom sums ≡ totals

@@ -37,19 +37,19 @@ abbrev flatFrom : Written → Flat
 flatFrom w = record { answer = w .no; len = w .len; bytes = w .out }
 
 -- ---- start, then feed: what is made of the two answers
-pub filled : {A : Type 0} (from : Out → Out → A) (scratch : List ℕ) (coupon : ℕ) {n m x y k : ℕ} {s t : Sketch} {regs aux regs′ aux′ : List ℕ} {start o p : Out}
-    → n ≡ x → m ≡ y → out x s 0 regs aux ≡ start → start ≡ o → out y t k regs′ aux′ ≡ feedOf s regs aux scratch (coupon ∷ []) → fedTo start scratch coupon ≡ p
-    → from (out n s 0 regs aux) (out m t k regs′ aux′) ≡ from o p
+pub filled : {A : Type 0} (from : Out → Out → A) (scratch : List ℕ) (coupon : ℕ) {n m x y u v k : ℕ} {s t : Sketch} {regs aux regs′ aux′ : List ℕ} {start o p : Out}
+    → n ≡ x → m ≡ y → out x u s 0 regs aux ≡ start → start ≡ o → out y v t k regs′ aux′ ≡ feedOf s regs aux scratch (coupon ∷ []) → fedTo start scratch coupon ≡ p
+    → from (out n u s 0 regs aux) (out m v t k regs′ aux′) ≡ from o p
 filled from scratch coupon i j e b f g = rw (i, j) (ap₂ from (e ∙ b) (f ∙ ap (λ (o : Out). fedTo o scratch coupon) e ∙ g))
 
 -- ---- merge, and the refused feed
-module _ {n x : ℕ} {t : Sketch} {regs : List ℕ} where
-  pub joins : {e : Eight} {f : Four} → e ≡ eight → f ≡ four → n ≡ x → out x t 0 regs [] ≡ mergeOf (e .sketch) (e .regs) (f .sketch) (f .regs) (f .aux) → _≡_ {A = Joined} (record { merged = n; sketch = t; regs = regs }) joined
+module _ {n x u : ℕ} {t : Sketch} {regs : List ℕ} where
+  pub joins : {e : Eight} {f : Four} → e ≡ eight → f ≡ four → n ≡ x → out x u t 0 regs [] ≡ mergeOf (e .sketch) (e .regs) (f .sketch) (f .regs) (f .aux) → _≡_ {A = Joined} (record { merged = n; sketch = t; regs = regs }) joined
   joins {e} {f} p q r m =
       rw r (ap joinedFrom
       (m ∙ ap (λ (z : Eight). mergeOf (z .sketch) (z .regs) (f .sketch) (f .regs) (f .aux)) p ∙ ap (λ (z : Four). mergeOf (eight .sketch) (eight .regs) (z .sketch) (z .regs) (z .aux)) q ∙ booked .merges))
 
-  pub refusals : {k : ℕ} {aux : List ℕ} {j : Joined} → j ≡ joined → n ≡ x → out x t k regs aux ≡ feedOf odd (j .regs) (replicate 1 9) (replicate 1 5) (three-at-five ∷ []) → _≡_ {A = Refused} (record { answer = n; taken = k; regs = regs }) refused
+  pub refusals : {k : ℕ} {aux : List ℕ} {j : Joined} → j ≡ joined → n ≡ x → out x u t k regs aux ≡ feedOf odd (j .regs) (replicate 1 9) (replicate 1 5) (three-at-five ∷ []) → _≡_ {A = Refused} (record { answer = n; taken = k; regs = regs }) refused
   refusals p r f = rw r (ap refusedFrom (f ∙ ap (λ (z : Joined). feedOf odd (z .regs) (replicate 1 9) (replicate 1 5) (three-at-five ∷ [])) p ∙ booked .refuses))
 
 -- ---- sums

@@ -76,6 +76,7 @@ unsafe extern "C" {
         m: usize,
         scratch: *mut u32,
         s: usize,
+        place: *mut u32,
     ) -> u32;
 }
 
@@ -89,12 +90,19 @@ pub const CALLS: [(&str, &[u32]); 7] = [
     ("write", if cfg!(feature = "write") { &[0, 1, 2, 3, 4, 16] } else { &[] }),
     (
         "open",
-        if cfg!(feature = "open") { &[0, 2, 3, 6, 7, 8, 9, 10, 11, 12, 13, 14, 15] } else { &[] },
+        if cfg!(feature = "open") {
+            &[0, 2, 3, 6, 7, 8, 9, 10, 11, 12, 14, 15, 21, 22, 23, 24, 25]
+        } else {
+            &[]
+        },
     ),
 ];
 
-const NONE: [AtomicUsize; 17] = [const { AtomicUsize::new(0) }; 17];
-static ANSWERS: [[AtomicUsize; 17]; 7] = [NONE; 7];
+/// One above the largest answer.
+pub const NUMBERS: usize = 26;
+
+const NONE: [AtomicUsize; NUMBERS] = [const { AtomicUsize::new(0) }; NUMBERS];
+static ANSWERS: [[AtomicUsize; NUMBERS]; 7] = [NONE; 7];
 
 /// How often the call answered so.
 pub fn answers(call: usize, number: usize) -> usize {
@@ -206,6 +214,7 @@ pub fn write(record: &[u32], regs: &[u8], aux: &[u32], out: &mut [u8]) -> (u32, 
     (counted(5, number), len)
 }
 
+/// The answer and its place.
 #[cfg(feature = "open")]
 pub fn open(
     image: &[u8],
@@ -213,9 +222,10 @@ pub fn open(
     regs: &mut [u8],
     aux: &mut [u32],
     scratch: &mut [u32],
-) -> u32 {
+) -> (u32, u32) {
     assert_eq!(record.len(), 5);
-    counted(6, unsafe {
+    let mut place = u32::MAX;
+    let number = unsafe {
         lp_open(
             image.as_ptr(),
             image.len(),
@@ -226,6 +236,8 @@ pub fn open(
             aux.len(),
             scratch.as_mut_ptr(),
             scratch.len(),
+            &mut place,
         )
-    })
+    };
+    (counted(6, number), place)
 }

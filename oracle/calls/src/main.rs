@@ -18,6 +18,8 @@ mod refusals;
 mod report;
 mod room;
 mod rust;
+#[cfg(feature = "open")]
+mod words;
 #[cfg(feature = "write")]
 mod written;
 
@@ -45,6 +47,8 @@ fn compare(n: u64, seed: u64) -> Result<(), String> {
     println!("{}", written::compare_all(n, seed)?);
     #[cfg(feature = "open")]
     println!("{}", opened::compare_all(n, seed)?);
+    #[cfg(feature = "open")]
+    println!("{}", words::compare_all(n, seed)?);
     println!("{}", refusals::compare_all(n, seed)?);
     println!("{}", refusals::table()?);
     Ok(())

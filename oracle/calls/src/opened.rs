@@ -1,5 +1,5 @@
-//! The Rust's images opened by us, as written, reordered and in the second form, and fed on; and damaged ones, whose answer is that of
-//! document 01's model.
+//! The Rust's images opened by us, as written, reordered and in the second form, and fed on; and damaged ones, whose answer and place are
+//! those of the model of documents 01 and 02.
 
 use crate::draw;
 use crate::histories::feed;
@@ -11,7 +11,7 @@ use crate::room::{self, Room};
 use crate::rust;
 use oracle::examples::{self, Random};
 use oracle::hll::HllSketch;
-use oracle::model::{Model, lists_valueless, refusal};
+use oracle::model::{Model, lists_valueless, said};
 use oracle::{Answer, Door, Recipe, State, hex, run};
 
 #[derive(Default)]
@@ -22,21 +22,22 @@ struct Tally {
     taken: usize,
 }
 
-/// The answer to opening: the model's, with SIZE and NO_ROOM of the lent memory at their places.
-fn opening(image: &[u8], ours: &Ours) -> u32 {
-    let number = refusal(image) as u32;
+/// The answer to opening and its place: the model's, with SIZE and NO_ROOM of the lent memory where they stand in the order.
+fn opening(image: &[u8], ours: &Ours) -> (u32, u32) {
+    let (number, place) = said(image);
+    let said = (number.into(), place);
     if image.len() < 40 || [8, 9, 2].contains(&number) {
-        return number;
+        return said;
     }
     let kind = kind(image);
     let (area, scratch) = (ours.aux.all().len(), ours.scratch.all().len());
     if ours.regs.all().len() != bytes(kind, image[3]) || kind == 4 && scratch < area {
-        return 3;
+        return (3, 0);
     }
     if [10, 11, 7].contains(&number) {
-        return number;
+        return said;
     }
-    if size(room::base(image[3]), count(image)) > area { 6 } else { number }
+    if size(room::base(image[3]), count(image)) > area { (6, 0) } else { said }
 }
 
 fn kind(image: &[u8]) -> u8 {
@@ -64,16 +65,16 @@ fn modelled(model: &Model) -> State {
 }
 
 /// Opens any bytes; where they are refused, nothing lent was written but scratch. Answers whether they were opened.
-fn opened(image: &[u8], mut ours: Ours) -> Result<Option<Ours>, String> {
+pub fn opened(image: &[u8], mut ours: Ours) -> Result<Option<Ours>, String> {
     let (before, wanted) = (ours.clone(), opening(image, &ours));
     answered("open", ours.open(image), wanted)?;
     ours.intact()?;
-    if wanted != 0 {
+    if wanted.0 != 0 {
         let untouched = ours.regs.all() == before.regs.all() && ours.aux.all() == before.aux.all();
         return match untouched && ours.record.all() == [0; 5] {
             true => Ok(None),
             false => Err(format!(
-                "refused with {wanted}, and memory or record are not as they should be"
+                "refused with {wanted:?}, and memory or record are not as they should be"
             )),
         };
     }
@@ -90,7 +91,7 @@ fn opened(image: &[u8], mut ours: Ours) -> Result<Option<Ours>, String> {
 }
 
 /// Memory as an image asks for it; a count above k is refused before its table is.
-fn lend(image: &[u8], more: usize) -> Ours {
+pub fn lend(image: &[u8], more: usize) -> Ours {
     let lg_k = image[3];
     let area = size(room::base(lg_k), count(image).min(1 << lg_k)) + more;
     Ours::lend(bytes(kind(image), lg_k), area, area)
@@ -188,11 +189,13 @@ fn history(
     Ok(())
 }
 
-/// Each boundary of open beside its neighbour.
+/// Each boundary of open beside its neighbour; those of the exception words are in words.rs.
 fn boundaries() -> Result<Vec<Case>, String> {
     let mut cases = Vec::new();
     let mut case = |what: &str, image: &[u8], ours: &mut Ours, wanted: u32| {
-        cases.push((what.to_string(), ours.open(image), wanted));
+        let (number, place) = ours.open(image);
+        cases.push((what.to_string(), number, wanted));
+        cases.push((format!("  place of {what}"), place, 0));
     };
     let image = |kind: u8, lg_k: u8, coupons: &[u32]| {
         let mut rust = Door::start(kind, lg_k);
@@ -250,12 +253,12 @@ fn boundaries() -> Result<Vec<Case>, String> {
     case("area 4, scratch 3", &four, &mut Ours::lend(8, 4, 3), 3);
     case("area 3, scratch 3", &four, &mut Ours::lend(8, 3, 3), 6);
     case("exception 15", &four, &mut lend(&four, 0), 0);
-    case("exception 14", &with(&four, 51, 14 << 2), &mut lend(&four, 0), 13);
-    case("count 0 of 1", &with(&four, 36, 0), &mut Ours::lend(8, 4, 4), 13);
+    case("exception 14", &with(&four, 51, 14 << 2), &mut lend(&four, 0), 23);
+    case("count 0 of 1", &with(&four, 36, 0), &mut Ours::lend(8, 4, 4), 25);
     case("count 2 of 1", &with(&four, 36, 2), &mut Ours::lend(8, 4, 4), 7);
     case("count 17", &with(&four, 36, 17), &mut Ours::lend(8, 64, 64), 10);
     case("slot 16 for 0", &with(&four, 48, 16), &mut lend(&four, 0), 0);
-    case("slot 1 for 0", &with(&four, 48, 1), &mut lend(&four, 0), 13);
+    case("slot 1 for 0", &with(&four, 48, 1), &mut lend(&four, 0), 25);
     let mut full = image(4, 4, &(0..16).map(|slot| 1 << 26 | slot).collect::<Vec<u32>>());
     case("num 16 at cur_min 1", &full, &mut lend(&full, 0), 0);
     full[6] = 0;

@@ -68,8 +68,9 @@ impl Ours {
         call::write(self.record.all(), self.regs.all(), self.aux.all(), out.all_mut())
     }
 
+    /// The answer, and its place.
     #[cfg(feature = "open")]
-    pub fn open(&mut self, image: &[u8]) -> u32 {
+    pub fn open(&mut self, image: &[u8]) -> (u32, u32) {
         let Ours { record, regs, aux, scratch } = self;
         call::open(image, record.all_mut(), regs.all_mut(), aux.all_mut(), scratch.all_mut())
     }
@@ -145,9 +146,13 @@ pub fn same<T: PartialEq + std::fmt::LowerHex>(
     }
 }
 
-pub fn answered(call: &str, ours: u32, wanted: u32) -> Result<(), String> {
+pub fn answered<T: PartialEq + std::fmt::Debug>(
+    call: &str,
+    ours: T,
+    wanted: T,
+) -> Result<(), String> {
     match ours == wanted {
         true => Ok(()),
-        false => Err(format!("{call} answers {ours}, not {wanted}")),
+        false => Err(format!("{call} answers {ours:?}, not {wanted:?}")),
     }
 }

@@ -265,16 +265,21 @@ pub fn listed(cases: &[Case]) -> Result<usize, String> {
 
 /// Every number that a call can answer was answered, and no other.
 pub fn table() -> Result<String, String> {
+    let column =
+        |number: &usize| call::CALLS.iter().any(|(_, can)| can.contains(&(*number as u32)));
+    let columns: Vec<usize> = (0..call::NUMBERS).filter(column).collect();
     let mut text = String::from("answers      ");
-    (0..17).for_each(|number| text += &format!("{number:>8}"));
+    columns.iter().for_each(|number| text += &format!("{number:>8}"));
     for (at, (call, numbers)) in call::CALLS.iter().enumerate() {
         text += &format!("\n  {call:<11}");
-        for number in 0..17 {
+        for number in 0..call::NUMBERS {
             let times = call::answers(at, number);
             if (times > 0) != numbers.contains(&(number as u32)) {
                 return Err(format!("{call} answered {number} {times} times\n{text}"));
             }
-            text += &if times > 0 { format!("{times:>8}") } else { format!("{:>8}", ".") };
+            if columns.contains(&number) {
+                text += &if times > 0 { format!("{times:>8}") } else { format!("{:>8}", ".") };
+            }
         }
     }
     Ok(text)

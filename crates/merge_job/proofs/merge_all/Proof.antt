@@ -46,7 +46,7 @@ returns c =
     let at-loop-test = at-take-file .before .before .before .before .before .before in
     let at-loop = at-loop-test .before in
     let m = at-loop .before .before .before in
-    refused (m .args .target) (m .args .tregs .now) (at-loop .loop .done) (at-loop .loop .sketch) (at-loop .loop .tregs) (at-loop .loop .inv .3) _ _ _ _ (at-take-file .take-file .ensures) _ (at-loop-test .loop-test .taken) (c .if1 .taken)
+    refused (m .args .target) (m .args .tregs .now) (at-loop .loop .done) (at-loop .loop .sketch) (at-loop .loop .tregs) (at-loop .loop .inv .3) _ _ _ _ _ (at-take-file .take-file .ensures) _ (at-loop-test .loop-test .taken) (c .if1 .taken)
 
 add-at : tie.Need-add-at Inv-loop μ-loop
 add-at c =
@@ -63,7 +63,7 @@ loop-again c =
       omega arith,
       search needs,
       one-less (m .args .job .now) _ _ (m .pre) (t .at) (t .done) _ (c .before .before .before .before .before .before .before .before .before .before .before .loop-test .taken) (t .inv .2) (c .before .before .before .before .before .before .before .before .before .path-in .ensures),
-      passed (m .args .target) (m .args .tregs .now) (t .done) (t .sketch) (t .tregs) (t .inv .3) _ _ _ _ (c .before .before .before .before .before .take-file .ensures) (c .if1 .left),
+      passed (m .args .target) (m .args .tregs .now) (t .done) (t .sketch) (t .tregs) (t .inv .3) _ _ _ _ _ (c .before .before .before .before .before .take-file .ensures) (c .if1 .left),
     )
 
 returns-2 : tie.Need-returns-2 Inv-loop μ-loop

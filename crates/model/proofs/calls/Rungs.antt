@@ -13,7 +13,7 @@ use Rattle.model.specs.Table.{baseFor, tableSize}
 use Rattle.model.specs.Sketch.{isKind, bytesOf}
 use Rattle.model.specs.Check.{goodOf, countsFit, valuesFit, spareFits, tallyFits, lgkNo, sizeNo, shapeNo, scratchFits, checkNo}
 use Rattle.model.specs.Calls.{eightNo, mergeNo}
-use Rattle.model.specs.Image.{imageIn, writeNo, sketchIn, regsIn, wordCount, auxFits, lgArrFits, headerNo, formNo, memoryNo, countsNo, roomNo, bodyNo, openNo}
+use Rattle.model.specs.Image.{imageIn, writeNo, sketchIn, regsIn, wordCount, auxIn, lgArrFits, headerNo, formNo, memoryNo, countsNo, roomNo, bodyNo, openNo}
 use Rattle.model.specs.declared.Sketch.{Sketch}
 use Rattle.model.proofs.order.Tells.{tells-one, tells-both, tells-le, tells-eq}
 use Rattle.model.proofs.calls.Ladder.{first-one}
@@ -261,30 +261,30 @@ pub form-either : (P : ℕ → Type 0) (kind lgk : ℕ) → P 0 → P 9 → P 2 
 unfolding formNo
 form-either P kind lgk z a b = first-either P _ _ (pick-either P (isKind kind) z a) (first-either P _ _ (lgk-either P lgk z b) (first-none P z))
 
--- the last part, by four tests
+-- the last part, by three tests and the exception words' number
 module _ (l : List ℕ) {values : Bool} (v : values ≡ valuesFit (sketchIn l) (regsIn l)) where
   pub body-values : values ≡ false → 12 ≡ bodyNo l
   unfolding bodyNo
   body-values e = stop _ 12 _ refl (sym v ∙ e)
 
-  module _ {listed : Bool} (a : listed ≡ pick (eqb (sketchIn l .kind) 4) (auxFits l) true) (one : values ≡ true) where
-    pub body-aux : listed ≡ false → 13 ≡ bodyNo l
+  module _ (one : values ≡ true) where
+    pub body-aux : (n : ℕ) → n ≡ auxIn l .no → (n ≡ 0 → ⊥) → n ≡ bodyNo l
     unfolding bodyNo
-    body-aux e = pass _ 12 _ (sym v ∙ one) (stop _ 13 _ refl (sym a ∙ e))
+    body-aux n e h = pass _ 12 _ (sym v ∙ one) (halt _ _ e h)
 
-    module _ {spare : Bool} (s : spare ≡ spareFits (sketchIn l) (regsIn l)) (two : listed ≡ true) where
+    module _ (two : auxIn l .no ≡ 0) {spare : Bool} (s : spare ≡ spareFits (sketchIn l) (regsIn l)) where
       pub body-spare : spare ≡ false → 14 ≡ bodyNo l
       unfolding bodyNo
-      body-spare e = pass _ 12 _ (sym v ∙ one) (pass _ 13 _ (sym a ∙ two) (stop _ 14 _ refl (sym s ∙ e)))
+      body-spare e = pass _ 12 _ (sym v ∙ one) (through _ _ two (stop _ 14 _ refl (sym s ∙ e)))
 
       module _ {tally : Bool} (t : tally ≡ tallyFits (sketchIn l) (regsIn l)) (three : spare ≡ true) where
         pub body-tally : tally ≡ false → 15 ≡ bodyNo l
         unfolding bodyNo
-        body-tally e = pass _ 12 _ (sym v ∙ one) (pass _ 13 _ (sym a ∙ two) (pass _ 14 _ (sym s ∙ three) (stop _ 15 _ refl (sym t ∙ e))))
+        body-tally e = pass _ 12 _ (sym v ∙ one) (through _ _ two (pass _ 14 _ (sym s ∙ three) (stop _ 15 _ refl (sym t ∙ e))))
 
         pub body-right : tally ≡ true → 0 ≡ bodyNo l
         unfolding bodyNo
-        body-right e = pass _ 12 _ (sym v ∙ one) (pass _ 13 _ (sym a ∙ two) (pass _ 14 _ (sym s ∙ three) (pass _ 15 _ (sym t ∙ e) done)))
+        body-right e = pass _ 12 _ (sym v ∙ one) (through _ _ two (pass _ 14 _ (sym s ∙ three) (pass _ 15 _ (sym t ∙ e) done)))
 
 -- the whole, by its parts
 module _ (l : List ℕ) (regs aux scratch : ℕ) where

@@ -18,7 +18,7 @@ use Rattle.model.specs.Packed.{Bytes, unpacked}
 use Rattle.model.specs.Table.{baseFor}
 use Rattle.model.specs.Sketch.{bytesOf, areaOf, tableIn, cells, floors, registers, Good}
 use Rattle.model.specs.Calls.{Out}
-use Rattle.model.specs.Image.{sketchIn, regsIn, compactIn, wordCount, wordsIn, entriesIn, homed, openNo, openOf, filled}
+use Rattle.model.specs.Image.{sketchIn, regsIn, compactIn, wordCount, wordsIn, entriesIn, homed, openNo, openOf}
 use Rattle.model.specs.declared.Sketch.{Sketch}
 use Rattle.model.proofs.packing.Packing.{unpacked-none}
 use Rattle.model.proofs.table.Sizes.{Sized, sized}
@@ -26,19 +26,16 @@ use Rattle.model.proofs.table.Sifted.{filled-from, filled-to}
 use Rattle.model.proofs.table.Made.{made-from, made-to}
 use Rattle.model.proofs.order.Tests.{counts-tells}
 use Rattle.model.proofs.image.Opens.{Opens, open-says}
-use Rattle.model.proofs.image.Entries.{AuxFits, aux-tells}
+use Rattle.model.proofs.image.Entries.{AuxFits}
+use Rattle.model.proofs.image.SameSlots.{aux-fits}
 use Rattle.model.proofs.image.Taken.{map-at, taken-slot, taken-value, takens, taken-words, madeOf, made-in}
 use Rattle.model.proofs.image.Opening.{areaIn, open-no, opens-to, open-good}
 use Rattle.model.proofs.registers.Floors.{Floored, floors-words, floored-as, good-floored}
 
--- the second form's empty words say nothing
+-- the empty words say nothing
 kept-words : {b : ℕ} {R F : List ℕ} (l : List ℕ) → Floored b R F (entriesIn l) → Floored b R F (wordsIn l)
 unfolding entriesIn
-kept-words {b} {R} {F} l f = go (compactIn l) f
-  where
-    go : (c : Bool) → Floored b R F (pick c (wordsIn l) (filled (wordsIn l))) → Floored b R F (wordsIn l)
-    go true g = g
-    go false g = floored-as g (λ w m h. (w, filled-from (wordsIn l) w m .0, refl, refl)) (λ u m h. (u, filled-to (wordsIn l) u m h, refl, refl))
+kept-words l f = floored-as f (λ w m h. (w, filled-from (wordsIn l) w m .0, refl, refl)) (λ u m h. (u, filled-to (wordsIn l) u m h, refl, refl))
 
 -- the words of the table that open makes are the entries, each by its slot modulo k
 module _ (s : Sketch) (regs es : List ℕ) (listed : AuxFits (2 ^ s .«lg_k») (s .«cur_min») (s .«aux_count») (cells s regs) es) (ok : Sized (baseFor (s .«lg_k»)) (2 ^ s .«lg_k»)) where
@@ -97,7 +94,7 @@ module _ (l regs aux scratch : List ℕ) (bytes : Bytes l) (opens : openOf l reg
   entries-floored : sketchIn l .kind ≡ 4 → Floored (sketchIn l .«lg_k») (registers (sketchIn l) (regsIn l) (areaIn l aux)) (floors (sketchIn l) (regsIn l)) (entriesIn l)
   unfolding areaIn areaOf
   entries-floored e =
-      let listed = aux-tells l .0 (passed .bodied .entries e) in
+      let listed = aux-fits l e (passed .bodied .entries) in
       let ok = sized (sketchIn l .«lg_k») (passed .sized .0) (passed .sized .1) in
       let front : tableIn (sketchIn l) (areaIn l aux) ≡ madeOf (sketchIn l) (entriesIn l) = rw (eq-eqb (sketchIn l .kind) 4 e) (made-in (sketchIn l) (regsIn l) (entriesIn l) listed ok (length aux) e) in
       made-words (sketchIn l) (regsIn l) (entriesIn l) listed ok (subst (Floored _ _ _) front held)

@@ -1,4 +1,4 @@
--- What open reads of an image with anything behind it: the record, the register bytes and, for kind 4, the entries. Assumes nothing.
+-- What open reads of an image with anything behind it: the record, the register bytes and, for kind 4, the words. Assumes nothing.
 use mathlib.Core.Path.{_≡_, refl, sym, ap, ap₂, _∙_}
 use mathlib.Core.Bool.{true}
 use mathlib.Core.List.{List, _++_}
@@ -8,7 +8,7 @@ use lib.ListN.{length, getD, take, drop, length-append}
 use lib.Seq.{take-at, drop-at, drop-drop}
 use Rattle.model.specs.Packed.{unpacked, packed}
 use Rattle.model.specs.Sketch.{bytesOf}
-use Rattle.model.specs.Image.{header, sketchIn, regsIn, compactIn, wordCount, entriesIn}
+use Rattle.model.specs.Image.{header, sketchIn, regsIn, compactIn, wordCount, wordsIn}
 use Rattle.model.specs.declared.Sketch.{Sketch}
 use Rattle.model.proofs.packing.ByteLists.{length-packed}
 use Rattle.model.proofs.image.Fields.{FieldsFit, unpacked-front, length-header, from-40, sketch-back}
@@ -51,10 +51,8 @@ module _ (s : Sketch) (R regs ws rest : List ℕ) where
       unfolding regsIn
       over-regs = ap₂ take size (from-40 s R (regs ++ behind)) ∙ take-at regs behind (length regs) refl
 
-      pub over-entries : s .kind ≡ 4 → ((i : ℕ) → getD ws i 0 < 2 ^ 32) → length ws ≡ s .«aux_count» → entriesIn (imageOver s R regs ws rest) ≡ ws
-      unfolding entriesIn
-      over-entries four fit many =
-          rw (over-compact four)
-          (ap₂ (unpacked 32) (over-count four ∙ sym many)
+      pub over-words : s .kind ≡ 4 → ((i : ℕ) → getD ws i 0 < 2 ^ 32) → length ws ≡ s .«aux_count» → wordsIn (imageOver s R regs ws rest) ≡ ws
+      over-words four fit many =
+          ap₂ (unpacked 32) (over-count four ∙ sym many)
           (ap (λ (n : ℕ). drop (40 + n) l) size ∙ sym (drop-drop (length regs) 40 l) ∙ ap (drop (length regs)) (from-40 s R (regs ++ behind)) ∙ drop-at regs behind (length regs) refl)
-          ∙ unpacked-front 32 (4 * length ws) ws rest fit (omega arith))
+          ∙ unpacked-front 32 (4 * length ws) ws rest fit (omega arith)

@@ -11,11 +11,11 @@ use lib.ListN.{length, getD, length-map}
 use lib.Seq.{ext-getD}
 use Rattle.model.specs.Pick.{pick}
 use Rattle.model.specs.Coupon.{value, slot, home, word}
-use Rattle.model.specs.Table.{Member, Reached, wordAt, used, made, baseFor, Makable}
+use Rattle.model.specs.Table.{Member, Reached, wordAt, used, made, baseFor, Makable, filled}
 use Rattle.model.specs.Packed.{slotAt}
 use Rattle.model.specs.Four.{registers4}
 use Rattle.model.specs.Sketch.{cells, tableIn}
-use Rattle.model.specs.Image.{homed, filled}
+use Rattle.model.specs.Image.{homed}
 use Rattle.model.specs.declared.Sketch.{Sketch}
 use Rattle.model.proofs.table.Order.{no-slot-twice, same-words}
 use Rattle.model.proofs.table.Inserted.{kept-room}

@@ -1,26 +1,31 @@
 -- Opening answers by the lines of the table, in their order. Assumes nothing.
-use mathlib.Core.Path.{_≡_, refl, sym, _∙_, subst}
+use mathlib.Core.Path.{_≡_, refl, sym, _∙_, ap, subst}
 use mathlib.Core.Bool.{Bool, true, false}
 use mathlib.Core.List.{List, [], _∷_}
 use mathlib.Core.Logic.{_⊎_, inl, inr}
-use Prim.Native.Nat.{ℕ, _+_, _*_, _^_}
+use Prim.Native.Nat.{ℕ, suc, _+_, _*_, _^_}
+use native.Mathlib.Omega.{arith}
 use lib.Dec.{eqb, leb}
 use lib.ListN.{length, getD}
-use borrow.Author.Tests.{eqb-true, eqb-false}
+use borrow.Author.Tests.{eqb-true, eqb-false, eq-eqb, ne-eqb}
 use Rattle.model.specs.Pick.{pick, both, firstOf, Tells}
 use Rattle.model.specs.Table.{baseFor, tableSize}
-use Rattle.model.specs.Sketch.{isKind, bytesOf}
+use Rattle.model.specs.Sketch.{isKind, bytesOf, cells}
 use Rattle.model.specs.Check.{countsFit, valuesFit, spareFits, tallyFits, lgkNo, sizeNo, scratchFits}
-use Rattle.model.specs.Image.{kindOf, sketchIn, regsIn, wordCount, auxFits, headerNo, formNo, memoryNo, lgArrFits, countsNo, roomNo, bodyNo, openNo, openOf}
-use Rattle.model.specs.Claims.{OpenLines}
+use Rattle.model.specs.Image.{kindOf, sketchIn, regsIn, compactIn, wordCount, wordsIn, auxIn, placeIn, saidIn, headerNo, formNo, memoryNo, lgArrFits, countsNo, roomNo, bodyNo, openNo, openOf}
+use Rattle.model.specs.Answers.{Said, said, placed}
+use Rattle.model.specs.Calls.{Out}
+use Rattle.model.specs.Claims.{Unless, refused, passed, Only, AuxLines, OpenLines}
 use Rattle.model.proofs.table.FirstLaws.{true-not-false}
-use Rattle.model.proofs.order.Tells.{tells-as, tells-both, tells-le, tells-eq, tells-if}
-use Rattle.model.proofs.calls.Ladder.{unless, first-tail, first-inside, first-one}
+use Rattle.model.proofs.order.Tells.{tells-as, tells-both, tells-le, tells-eq}
+use Rattle.model.proofs.calls.Ladder.{first-tail, first-inside, first-one}
 use Rattle.model.proofs.image.Opens.{lg-arr-tells}
 use Rattle.model.proofs.order.Tests.{cells-long, counts-tells, cur-min-most, values-tells, spare-tells, tally-tells, scratch-tells}
-use Rattle.model.proofs.image.Opening.{open-no}
-use Rattle.model.proofs.image.SameSlots.{entries-tell}
-use Rattle.model.proofs.histories.Demand1.{zero-is}
+use Rattle.model.proofs.calls.Picked.{picked}
+use Rattle.model.proofs.image.Faults.{aux-lines}
+use Rattle.model.proofs.image.SaidIn.{aux-in}
+use Rattle.model.proofs.calls.Rungs.{halt}
+use Rattle.model.proofs.image.SameSlots.{aux-other, by-words}
 
 -- the modes are those of the three kinds
 mode-tells : (mode : ℕ) → Tells (isKind (kindOf mode)) ((mode ≡ 2) ⊎ ((mode ≡ 6) ⊎ (mode ≡ 10)))
@@ -53,7 +58,7 @@ rungs l regs aux scratch =
     ∷ pick (leb (40 + bytesOf (s .kind) (s .«lg_k») + 4 * wordCount l) (length l)) 0 7
     ∷ pick (leb (tableSize (baseFor (s .«lg_k»)) (s .«aux_count»)) (length aux)) 0 6
     ∷ pick (valuesFit s (regsIn l)) 0 12
-    ∷ pick (pick (eqb (s .kind) 4) (auxFits l) true) 0 13
+    ∷ auxIn l .no
     ∷ pick (spareFits s (regsIn l)) 0 14
     ∷ pick (tallyFits s (regsIn l)) 0 15
     ∷ []
@@ -62,23 +67,52 @@ open-rungs : (l regs aux scratch : List ℕ) → openNo l (length regs) (length 
 unfolding openNo headerNo formNo memoryNo countsNo roomNo bodyNo
 open-rungs l regs aux scratch = first-inside _ _ _ (first-inside _ _ _ (first-inside _ _ _ (first-inside _ _ _ (first-tail (_ ∷ []) _ _ (first-one _)))))
 
-pub open-lines : (l regs aux scratch : List ℕ) → OpenLines l regs aux scratch (openOf l regs aux scratch .no)
+-- ---- an answer with its place
+open-said : (l regs aux scratch : List ℕ) → let o = openOf l regs aux scratch in said (o .no) (o .place) ≡ saidIn l (openNo l (length regs) (length aux) (length scratch))
+unfolding openOf placeIn
+open-said l regs aux scratch = picked (openNo l (length regs) (length aux) (length scratch)) _ _ (λ (o : Out). said (o .no) (o .place) ≡ saidIn l (openNo l (length regs) (length aux) (length scratch))) (λ z. rw z) (λ h. refl)
+
+none-said : (l : List ℕ) → saidIn l (firstOf []) ≡ said 0 0
+unfolding firstOf placeIn
+none-said l = refl
+
+-- a line that names no place decides, or hands on with what it asked
+plain : (l : List ℕ) {Q : Type 0} {next : Said → Type 0} (b : Bool) (n : ℕ) (ns : List ℕ) → placed (suc n) ≡ false → Tells b Q → (Q → next (saidIn l (firstOf ns)))
+    → Unless (said (suc n) 0) Q next (saidIn l (firstOf (pick b 0 (suc n) ∷ ns)))
+unfolding firstOf placeIn
+plain l true n ns z t f = passed (t .0 refl) (f (t .0 refl))
+plain l false n ns z t f = refused (t .1 refl) (rw (ne-eqb (suc n) 0 (λ e. omega arith), z))
+
+-- the exception words decide, and name their place, or hand on
+aux-decide : (l : List ℕ) (ns : List ℕ) {next : Said → Type 0} → next (saidIn l (firstOf ns))
+    → Only (sketchIn l .kind ≡ 4) (AuxLines (compactIn l) (2 ^ sketchIn l .«lg_k») (sketchIn l .«cur_min») (sketchIn l .«aux_count») (wordsIn l) (cells (sketchIn l) (regsIn l)) next) next (saidIn l (firstOf (auxIn l .no ∷ ns)))
+unfolding firstOf
+aux-decide l ns {next} f =
+    ((λ four. let w = by-words l four in aux-lines _ _ _ _ _ _ next _ (λ h. is (λ z. h (ap (λ (g : Said). g .no) (sym w) ∙ z)) ∙ w) (λ z. on (w ∙ z))), λ n. on (aux-other l n))
+  where
+    on : auxIn l ≡ said 0 0 → next (saidIn l (firstOf (auxIn l .no ∷ ns)))
+    on e = rw (eq-eqb (auxIn l .no) 0 (ap (λ (g : Said). g .no) e)) f
+
+    is : (auxIn l .no ≡ 0 → ⊥) → saidIn l (firstOf (auxIn l .no ∷ ns)) ≡ auxIn l
+    is h = sym (aux-in l (halt (auxIn l .no) ns refl h) h)
+
+pub open-lines : (l regs aux scratch : List ℕ) → let o = openOf l regs aux scratch in OpenLines l regs aux scratch (said (o .no) (o .place))
 unfolding lgkNo sizeNo sketchIn
 open-lines l regs aux scratch =
     let s = sketchIn l in
     let k = 2 ^ s .«lg_k» in
-    subst (OpenLines l regs aux scratch) (sym (open-no l regs aux scratch ∙ open-rungs l regs aux scratch))
-    (unless _ 6 _ (tells-le 40 (length l)) (λ p.
-    unless _ 7 _ (tells-both _ _ (tells-eq (getD l 0 0) 10) (tells-both _ _ (tells-eq (getD l 1 0) 1) (tells-eq (getD l 2 0) 7))) (λ p.
-    unless _ 8 _ (mode-tells (getD l 7 0)) (λ p.
-    unless _ 1 _ (tells-both _ _ (tells-le 4 (s .«lg_k»)) (tells-le (s .«lg_k») 21)) (λ p.
-    unless _ 2 _ (tells-eq (length regs) (bytesOf (s .kind) (s .«lg_k»))) (λ p.
-    unless _ 2 _ (scratch-tells (s .kind) aux scratch) (λ p.
-    unless _ 9 _ (tells-as _ (λ c. (c .num, (c .count, (cur-min-most s c, c .none)))) (λ q. record { num = q .0; count = q .1 .0; low = λ e. q .1 .1 .0; none = q .1 .1 .1 }) (counts-tells s)) (λ p.
-    unless _ 10 _ (lg-arr-tells l) (λ p.
-    unless _ 6 _ (tells-le (40 + bytesOf (s .kind) (s .«lg_k») + 4 * wordCount l) (length l)) (λ p.
-    unless _ 5 _ (tells-le (tableSize (baseFor (s .«lg_k»)) (s .«aux_count»)) (length aux)) (λ p.
-    unless _ 11 _ (rw (cells-long s (regsIn l)) at (values-tells s (regsIn l))) (λ p.
-    unless _ 12 _ (tells-if _ _ (tells-eq (s .kind) 4) (entries-tell l)) (λ p.
-    unless _ 13 _ (spare-tells s (regsIn l)) (λ p.
-    unless _ 14 [] (tally-tells s (regsIn l)) (λ p. zero-is)))))))))))))))
+    subst (OpenLines l regs aux scratch) (sym (open-said l regs aux scratch ∙ ap (saidIn l) (open-rungs l regs aux scratch)))
+    (plain l _ 6 _ refl (tells-le 40 (length l)) (λ p.
+    plain l _ 7 _ refl (tells-both _ _ (tells-eq (getD l 0 0) 10) (tells-both _ _ (tells-eq (getD l 1 0) 1) (tells-eq (getD l 2 0) 7))) (λ p.
+    plain l _ 8 _ refl (mode-tells (getD l 7 0)) (λ p.
+    plain l _ 1 _ refl (tells-both _ _ (tells-le 4 (s .«lg_k»)) (tells-le (s .«lg_k») 21)) (λ p.
+    plain l _ 2 _ refl (tells-eq (length regs) (bytesOf (s .kind) (s .«lg_k»))) (λ p.
+    plain l _ 2 _ refl (scratch-tells (s .kind) aux scratch) (λ p.
+    plain l _ 9 _ refl (tells-as _ (λ c. (c .num, (c .count, (cur-min-most s c, c .none)))) (λ q. record { num = q .0; count = q .1 .0; low = λ e. q .1 .1 .0; none = q .1 .1 .1 }) (counts-tells s)) (λ p.
+    plain l _ 10 _ refl (lg-arr-tells l) (λ p.
+    plain l _ 6 _ refl (tells-le (40 + bytesOf (s .kind) (s .«lg_k») + 4 * wordCount l) (length l)) (λ p.
+    plain l _ 5 _ refl (tells-le (tableSize (baseFor (s .«lg_k»)) (s .«aux_count»)) (length aux)) (λ p.
+    plain l _ 11 _ refl (rw (cells-long s (regsIn l)) at (values-tells s (regsIn l))) (λ p.
+    aux-decide l _
+    (plain l _ 13 _ refl (spare-tells s (regsIn l)) (λ p.
+    plain l _ 14 [] refl (tally-tells s (regsIn l)) (λ p. none-said l)))))))))))))))

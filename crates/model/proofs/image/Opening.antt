@@ -18,7 +18,7 @@ use Rattle.model.proofs.order.Tells.{tells-true}
 use Rattle.model.proofs.table.Sizes.{sized}
 use Rattle.model.proofs.order.Lawful.{lawful}
 use Rattle.model.proofs.order.Tests.{good-asks}
-use Rattle.model.proofs.image.Entries.{aux-tells}
+use Rattle.model.proofs.image.SameSlots.{aux-fits}
 use Rattle.model.proofs.image.Taken.{madeOf, made-fits}
 use Rattle.model.proofs.calls.Picked.{picked-no}
 use Rattle.model.proofs.image.Opens.{Opens, open-says}
@@ -32,7 +32,7 @@ module _ (l regs aux scratch : List ℕ) where
   unfolding openOf
   open-no = picked-no (openNo l (length regs) (length aux) (length scratch)) _ _ (λ (o : Out). o .no) refl refl
 
-  pub opens-to : openNo l (length regs) (length aux) (length scratch) ≡ 0 → openOf l regs aux scratch ≡ out 0 (sketchIn l) 0 (regsIn l) (areaIn l aux)
+  pub opens-to : openNo l (length regs) (length aux) (length scratch) ≡ 0 → openOf l regs aux scratch ≡ out 0 0 (sketchIn l) 0 (regsIn l) (areaIn l aux)
   unfolding openOf areaIn
   opens-to e = rw e
 
@@ -62,7 +62,7 @@ open-passes l regs aux scratch o =
       spare = o .bodied .spare;
       tally = o .bodied .tally;
       table = λ four. rw (eq-eqb (s .kind) 4 four)
-          (made-fits s (regsIn l) (entriesIn l) (aux-tells l .0 (o .bodied .entries four)) (sized (s .«lg_k») (o .sized .0) (o .sized .1)) (length aux) four (o .room));
+          (made-fits s (regsIn l) (entriesIn l) (aux-fits l four (o .bodied .entries)) (sized (s .«lg_k») (o .sized .0) (o .sized .1)) (length aux) four (o .room));
     })
 
 -- so it is in good order, if the register bytes are bytes

@@ -7,10 +7,10 @@ use lib.ListN.{length, getD}
 use Rattle.model.specs.Table.{baseFor, tableSize}
 use Rattle.model.specs.Sketch.{isKind, bytesOf}
 use Rattle.model.specs.Check.{countsFit, valuesFit, spareFits, tallyFits, scratchFits}
-use Rattle.model.specs.Image.{sketchIn, regsIn, compactIn, wordCount, auxFits, headerNo, formNo, memoryNo, lgArrFits, countsNo, roomNo, bodyNo, openNo}
+use Rattle.model.specs.Image.{sketchIn, regsIn, compactIn, wordCount, auxIn, headerNo, formNo, memoryNo, lgArrFits, countsNo, roomNo, bodyNo, openNo}
 use Rattle.model.specs.Pick.{Tells}
-use Rattle.model.proofs.order.Tells.{tells-pass, tells-both, tells-le, tells-eq, tells-if, tells-unless}
-use Rattle.model.proofs.calls.Ladder.{Says, says-as, says-pass, says-last, says-next, lgk-says, size-says}
+use Rattle.model.proofs.order.Tells.{tells-pass, tells-both, tells-le, tells-eq, tells-unless}
+use Rattle.model.proofs.calls.Ladder.{Says, says-as, says-pass, says-self, says-last, says-next, lgk-says, size-says}
 
 -- ---- part by part
 pub header-says : (l : List ℕ) → Says (headerNo l) ((40 ≤ length l) × ((getD l 0 0 ≡ 10) × ((getD l 1 0 ≡ 1) × (getD l 2 0 ≡ 7))))
@@ -56,7 +56,7 @@ room-says lgk count aux = says-pass _ 5 (tells-le (tableSize (baseFor lgk) count
 -- the registers and the exceptions
 pub record Bodied (l : List ℕ) : Type 0 where
   pub values : valuesFit (sketchIn l) (regsIn l) ≡ true
-  pub entries : sketchIn l .kind ≡ 4 → auxFits l ≡ true
+  pub entries : auxIn l .no ≡ 0
   pub spare : spareFits (sketchIn l) (regsIn l) ≡ true
   pub tally : tallyFits (sketchIn l) (regsIn l) ≡ true
 
@@ -66,7 +66,7 @@ body-says l =
     let s = sketchIn l in
     says-as _
     (says-next _ _ (says-pass _ 11 (tells-pass (valuesFit s (regsIn l))))
-    (says-next _ _ (says-pass _ 12 (tells-if _ _ (tells-eq (s .kind) 4) (tells-pass (auxFits l))))
+    (says-next _ _ (says-self (auxIn l .no))
     (says-next _ _ (says-pass _ 13 (tells-pass (spareFits s (regsIn l))))
     (says-next _ _ (says-pass _ 14 (tells-pass (tallyFits s (regsIn l)))) says-last))))
     (λ p. search) (λ b. search)

@@ -9,7 +9,7 @@ use lib.ListN.{length, getD, take, drop, length-take, length-drop}
 use lib.Seq.{getD-take, getD-drop, ext-getD}
 use Rattle.model.specs.Packed.{Bytes, slotAt, unpacked}
 use Rattle.model.specs.Sketch.{bytesOf}
-use Rattle.model.specs.Image.{sketchIn, regsIn, compactIn, wordCount, entriesIn, auxFits, headerNo, lgArrFits, countsNo, bodyNo, openNo, openOf}
+use Rattle.model.specs.Image.{sketchIn, regsIn, compactIn, wordCount, wordsIn, entriesIn, auxIn, placeIn, headerNo, lgArrFits, countsNo, bodyNo, openNo, openOf}
 use Rattle.model.specs.Claims.{endOf, Alike, OpensAlike}
 use Rattle.model.specs.declared.Sketch.{Sketch}
 use Rattle.model.proofs.packing.ByteLists.{bytes-drop}
@@ -79,12 +79,19 @@ module _ (l m : List ℕ) (bl : Bytes l) (bm : Bytes m) (a : Alike l m) where
       (λ j p q. getD-drop (40 + n) l j 0 ∙ behind (40 + n + j) (omega arith) (omega arith) ∙ sym (getD-drop (40 + n) m j 0))
       ∙ sym (getD-unpacked 32 (wordCount l) (drop (40 + n) m) i d))
 
+  all-words : wordsIn l ≡ wordsIn m
+  all-words = rw (same-words, same-count, same-sketch)
+
   same-entries : entriesIn l ≡ entriesIn m
   unfolding entriesIn
-  same-entries = rw (same-words, same-compact, same-count, same-sketch)
+  same-entries = rw all-words
+
+  same-aux : auxIn l ≡ auxIn m
+  unfolding auxIn
+  same-aux = rw (all-words, same-compact, same-regs, same-sketch)
 
   same-no : (regs aux scratch : ℕ) → openNo l regs aux scratch ≡ openNo m regs aux scratch
-  unfolding openNo headerNo countsNo lgArrFits bodyNo auxFits
+  unfolding openNo headerNo countsNo lgArrFits bodyNo
   same-no regs aux scratch =
       rw (
         long-same (length l) (length m) (endOf l) 40 (a .long) (omega arith),
@@ -93,7 +100,7 @@ module _ (l m : List ℕ) (bl : Bytes l) (bm : Bytes m) (a : Alike l m) where
         front 1 (omega arith) (λ e. omega arith),
         front 2 (omega arith) (λ e. omega arith),
         front 4 (omega arith) (λ e. omega arith),
-        same-entries,
+        same-aux,
         same-regs,
         same-count,
         same-compact,
@@ -101,5 +108,5 @@ module _ (l m : List ℕ) (bl : Bytes l) (bm : Bytes m) (a : Alike l m) where
       )
 
 pub opens-alike : OpensAlike
-unfolding openOf
-opens-alike l m regs aux scratch bl bm a = rw (same-no l m bl bm a (length regs) (length aux) (length scratch), same-entries l m bl bm a, same-regs l m bl bm a, same-sketch l m bl bm a)
+unfolding openOf placeIn
+opens-alike l m regs aux scratch bl bm a = rw (same-aux l m bl bm a, same-no l m bl bm a (length regs) (length aux) (length scratch), same-entries l m bl bm a, same-regs l m bl bm a, same-sketch l m bl bm a)

@@ -25,8 +25,9 @@ use Rattle.model.proofs.table.Made.{made-shape, made-to}
 use Rattle.model.proofs.four.Reading.{getD-registers}
 use Rattle.model.proofs.order.Plain.{plain-cells, plain-long}
 use Rattle.model.proofs.four.FourLaws.{four-long, four-length}
-use Rattle.model.proofs.image.Entries.{AuxFits, aux-tells}
-use Rattle.model.proofs.image.SameSlots.{entries-tell}
+use Rattle.model.proofs.order.Tests.{cells-long}
+use Rattle.model.proofs.image.Entries.{AuxFits}
+use Rattle.model.proofs.image.SameSlots.{aux-fits, fits-entries}
 use Rattle.model.proofs.image.Taken.{map-at, taken-slot, taken-value, takens, taken-words, madeOf, made-in}
 use Rattle.model.proofs.image.Opens.{Opens, open-says}
 use Rattle.model.proofs.image.Opening.{areaIn, open-no, opens-to, open-shaped}
@@ -52,7 +53,7 @@ module _ (l regs aux scratch : List ℕ) (p : Opens l (length regs) (length aux)
     long = four-length s (regsIn l) (areaIn l aux) four shaped
 
     listed : AuxFits k (s .«cur_min») (s .«aux_count») (cells s (regsIn l)) (entriesIn l)
-    listed = aux-tells l .0 (p .bodied .entries four)
+    listed = aux-fits l four (p .bodied .entries)
 
     even : (i : ℕ) → i < k → i < 2 * length (regsIn l)
     even i h = let e = four-long s (regsIn l) (areaIn l aux) four shaped in omega arith
@@ -89,7 +90,7 @@ module _ (l regs aux scratch : List ℕ) (p : Opens l (length regs) (length aux)
     long = go (ℕ-discrete (s .kind) 4);
     plain = plain-cells s (regsIn l) (areaIn l aux);
     low = low;
-    listed = λ four. entries-tell l .0 (p .bodied .entries four) .lists;
+    listed = λ four. fits-entries (sketchIn l) (cells (sketchIn l) (regsIn l)) (entriesIn l) (cells-long (sketchIn l) (regsIn l)) (aux-fits l four (p .bodied .entries)) .lists;
     high = high;
   }
     where

@@ -1,28 +1,33 @@
 -- The slots that entries list and those of the nibbles 15 are one set exactly if each entry's nibble is 15 and there are as many of both. Assumes nothing.
 use mathlib.Core.Path.{_≡_, refl, sym, ap, _∙_}
-use mathlib.Core.Bool.{Bool, true, not}
+use mathlib.Core.Bool.{Bool, true, false, not}
 use mathlib.Core.List.{List, [], _∷_, map}
-use Prim.Native.Nat.{ℕ, suc, _^_, _<_, zero-le, suc-le-suc}
-use native.Mathlib.Nat.{mod-lt}
+use Prim.Native.Nat.{ℕ, suc, _+_, _^_, _<_, zero-le, suc-le-suc}
+use native.Mathlib.Nat.{mod-lt, not-suc-le-zero}
 use native.Mathlib.Omega.{arith}
 use lib.Dec.{eqb}
-use lib.ListN.{length, getD, length-map}
+use lib.ListN.{length, getD, drop, length-map}
 use lib.Pow.{pow-pos}
 use borrow.Author.Tests.{eq-eqb, ne-eqb, eqb-false, not-true}
-use Rattle.model.specs.Pick.{Tells}
+use Rattle.model.specs.Pick.{pick}
 use Rattle.model.specs.Coupon.{value, slot, home}
+use Rattle.model.specs.Packed.{unpacked}
 use Rattle.model.specs.Registers.{countOf}
-use Rattle.model.specs.Table.{used}
-use Rattle.model.specs.Sketch.{cells}
-use Rattle.model.specs.Image.{homed, sketchIn, regsIn, entriesIn, auxFits}
-use Rattle.model.specs.Claims.{Listed, Entries}
+use Rattle.model.specs.Table.{used, filled}
+use Rattle.model.specs.Answers.{Said, said}
+use Rattle.model.specs.Faults.{auxFault}
+use Rattle.model.specs.Sketch.{bytesOf, cells}
+use Rattle.model.specs.Image.{homed, sketchIn, regsIn, compactIn, wordCount, wordsIn, entriesIn, auxIn}
+use Rattle.model.specs.Claims.{EntryAt, Listed, Entries}
 use Rattle.model.specs.declared.Sketch.{Sketch}
-use Rattle.model.proofs.order.Tells.{tells-as, tells-one, tells-eq}
+use Rattle.model.proofs.order.Tells.{tells-one, tells-eq}
+use Rattle.model.proofs.packing.Packing.{unpacked-none}
+use Rattle.model.proofs.table.Sifted.{sifted-none}
 use Rattle.model.proofs.table.Counting.{marks, Marked, marks-same, marks-used, marks-all, count-marks}
 use Rattle.model.proofs.table.FirstLaws.{true-not-false}
 use Rattle.model.proofs.order.Tests.{cells-long}
 use Rattle.model.proofs.registers.Lowest.{count-none, count-some}
-use Rattle.model.proofs.image.Entries.{Apart, AuxFits, aux-tells}
+use Rattle.model.proofs.image.Entries.{Apart, AuxFits, none-entries, entries-none}
 use Rattle.model.proofs.image.Taken.{map-at, taken-slot, taken-value}
 
 -- words of which none is empty are all used
@@ -58,8 +63,8 @@ module _ (k : ℕ) (es : List ℕ) (some : 0 < k) (high : (i : ℕ) → i < leng
   at : (i : ℕ) → i < length es → getD ws i 0 ≡ homed k (getD es i 0)
   at i d = map-at (homed k) es i d
 
-  filled : (i : ℕ) → i < length es → homed k (getD es i 0) ≡ 0 → ⊥
-  filled i d z = let v : value (homed k (getD es i 0)) ≡ 0 = rw z in omega (arith, high i d, taken-value k (getD es i 0))
+  valued : (i : ℕ) → i < length es → homed k (getD es i 0) ≡ 0 → ⊥
+  valued i d z = let v : value (homed k (getD es i 0)) ≡ 0 = rw z in omega (arith, high i d, taken-value k (getD es i 0))
 
   marked : Marked ws (has k es) k
   marked = record {
@@ -74,14 +79,14 @@ module _ (k : ℕ) (es : List ℕ) (some : 0 < k) (high : (i : ℕ) → i < leng
     to = λ i l h.
         let (w, m, e) = has-lists k es i h in
         let d : m .0 < length ws = rw length-map (m .1) in
-        (getD ws (m .0) 0, (λ z. filled (m .0) (m .1) (sym (at (m .0) (m .1)) ∙ z)), (m .0, d, refl), ap slot (at (m .0) (m .1)) ∙ taken-slot k (getD es (m .0) 0) ∙ ap (home k) (m .2) ∙ e);
+        (getD ws (m .0) 0, (λ z. valued (m .0) (m .1) (sym (at (m .0) (m .1)) ∙ z)), (m .0, d, refl), ap slot (at (m .0) (m .1)) ∙ taken-slot k (getD es (m .0) 0) ∙ ap (home k) (m .2) ∙ e);
   }
 
   entries-marks : length es ≡ marks (has k es) k
   entries-marks =
-      sym (length-map es (homed k)) ∙ sym (used-all ws (λ i l z. let d : i < length es = rw length-map at l in filled i d (sym (at i d) ∙ z))) ∙ marks-used ws (has k es) k marked
+      sym (length-map es (homed k)) ∙ sym (used-all ws (λ i l z. let d : i < length es = rw length-map at l in valued i d (sym (at i d) ∙ z))) ∙ marks-used ws (has k es) k marked
 
--- ---- AUX asks what its line says
+-- ---- the entries in numbers, and as sets
 module _ (s : Sketch) (nibbles es : List ℕ) (long : length nibbles ≡ 2 ^ s .«lg_k») where
   abbrev k : ℕ
   k = 2 ^ s .«lg_k»
@@ -92,7 +97,7 @@ module _ (s : Sketch) (nibbles es : List ℕ) (long : length nibbles ≡ 2 ^ s .
   fifteens-marks : countOf 15 nibbles ≡ marks (fifteen nibbles) k
   fifteens-marks = count-marks 15 nibbles ∙ ap (marks (fifteen nibbles)) long
 
-  fits-entries : Fits → Entries s nibbles es
+  pub fits-entries : AuxFits (2 ^ s .«lg_k») (s .«cur_min») (s .«aux_count») nibbles es → Entries s nibbles es
   fits-entries h =
       let listed : (i : ℕ) → Listed k es i → getD nibbles i 0 ≡ 15 = λ i (w, m, e). ap (λ (j : ℕ). getD nibbles j 0) (sym (ap (home k) (m .2) ∙ e)) ∙ h .each (m .0) (m .1) .1 in
       record {
@@ -118,7 +123,46 @@ module _ (s : Sketch) (nibbles es : List ℕ) (long : length nibbles ≡ 2 ^ s .
         ∙ sym (entries-marks k es (pow-pos (s .«lg_k»)) (λ j d. omega (arith, h .high j d)) (h .apart)) ∙ h .count;
   }
 
-pub entries-tell : (l : List ℕ) → Tells (auxFits l) (Entries (sketchIn l) (cells (sketchIn l) (regsIn l)) (entriesIn l))
-entries-tell l =
-    let long = cells-long (sketchIn l) (regsIn l) in
-    tells-as _ (fits-entries (sketchIn l) (cells (sketchIn l) (regsIn l)) (entriesIn l) long) (entries-fits (sketchIn l) (cells (sketchIn l) (regsIn l)) (entriesIn l) long) (aux-tells l)
+-- ---- in an image
+pub no-words : (l : List ℕ) → sketchIn l .«aux_count» ≡ 0 → wordCount l ≡ 0
+unfolding wordCount
+no-words l e = rw e (go (compactIn l))
+  where
+    go : (b : Bool) → _≡_ {A = ℕ} (pick b 0 0) 0
+    go true = refl
+    go false = refl
+
+pub aux-other : (l : List ℕ) → (sketchIn l .kind ≡ 4 → ⊥) → auxIn l ≡ said 0 0
+unfolding auxIn
+aux-other l n = rw (ne-eqb (sketchIn l .kind) 4 n)
+
+module _ (l : List ℕ) (four : sketchIn l .kind ≡ 4) where
+  abbrev ns : List ℕ
+  ns = cells (sketchIn l) (regsIn l)
+
+  pub by-words : auxIn l ≡ auxFault (compactIn l) (2 ^ sketchIn l .«lg_k») (sketchIn l .«cur_min») (sketchIn l .«aux_count») (wordsIn l) (cells (sketchIn l) (regsIn l))
+  unfolding auxIn
+  by-words = rw (eq-eqb (sketchIn l .kind) 4 four)
+
+  -- where nothing is wrong, a table can be made of the entries
+  pub aux-fits : auxIn l .no ≡ 0 → AuxFits (2 ^ sketchIn l .«lg_k») (sketchIn l .«cur_min») (sketchIn l .«aux_count») (cells (sketchIn l) (regsIn l)) (entriesIn l)
+  unfolding entriesIn
+  aux-fits z = entries-fits (sketchIn l) ns (filled (wordsIn l)) (cells-long (sketchIn l) (regsIn l)) (none-entries (compactIn l) (sketchIn l) ns (wordsIn l) (ap (λ (f : Said). f .no) (sym by-words) ∙ z) .0)
+
+  -- and the other way, where no word is empty
+  pub fits-aux : AuxFits (2 ^ sketchIn l .«lg_k») (sketchIn l .«cur_min») (sketchIn l .«aux_count») (cells (sketchIn l) (regsIn l)) (entriesIn l)
+      → ((i : ℕ) → i < length (wordsIn l) → EntryAt (wordsIn l) i) → auxIn l .no ≡ 0
+  unfolding entriesIn
+  fits-aux h full =
+      ap (λ (f : Said). f .no) (by-words ∙ entries-none (compactIn l) (sketchIn l) ns (wordsIn l)
+      (fits-entries (sketchIn l) ns (filled (wordsIn l)) (cells-long (sketchIn l) (regsIn l)) h) (λ i d e. true-not-false (e .1) (full i d)))
+
+  -- no words are counted, and no nibble is 15
+  pub aux-empty : sketchIn l .«aux_count» ≡ 0 → countOf 15 (cells (sketchIn l) (regsIn l)) ≡ 0 → auxIn l ≡ said 0 0
+  aux-empty z none =
+      by-words ∙ ap (λ (ws : List ℕ). auxFault (compactIn l) (2 ^ sketchIn l .«lg_k») (sketchIn l .«cur_min») (sketchIn l .«aux_count») ws ns) (ap (λ (n : ℕ). unpacked 32 n (drop (40 + bytesOf (sketchIn l .kind) (sketchIn l .«lg_k»)) l)) (no-words l z) ∙ unpacked-none 32 _)
+      ∙ entries-none (compactIn l) (sketchIn l) ns []
+      (rw sifted-none
+      (fits-entries (sketchIn l) ns [] (cells-long (sketchIn l) (regsIn l))
+      (record { each = λ i d. absurd (not-suc-le-zero d); apart = λ i j d. absurd (not-suc-le-zero d); many = sym z; marked = none ∙ sym z })))
+      (λ i d. absurd (not-suc-le-zero d))

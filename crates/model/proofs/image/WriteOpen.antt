@@ -1,43 +1,36 @@
 -- What write wrote opens to the same sketch, whatever stood in the buffer behind the image. Assumes nothing.
 use mathlib.Core.Path.{_≡_, refl, sym, ap, _∙_, subst}
-use mathlib.Core.Bool.{Bool, true, false}
+use mathlib.Core.Bool.{true}
 use mathlib.Core.List.{List, _++_, append-assoc}
-use Prim.Native.Nat.{ℕ, _+_, _*_, _≤_, zero-le}
+use Prim.Native.Nat.{ℕ, _+_, _*_, _≤_, _<_, zero-le}
 use native.Mathlib.Decide.{ℕ-discrete}
 use native.Mathlib.Omega.{arith}
-use lib.ListN.{length, drop}
+use lib.ListN.{length, getD, drop}
 use borrow.Author.Tests.{eq-eqb}
-use Rattle.model.specs.Pick.{pick}
-use Rattle.model.specs.Table.{baseFor, tableSize}
+use Rattle.model.specs.Table.{baseFor, tableSize, filled}
+use Rattle.model.specs.Answers.{Said}
 use Rattle.model.specs.Four.{registers4}
 use Rattle.model.specs.Sketch.{bytesOf, areaOf, registers, Shaped, Good}
 use Rattle.model.specs.Check.{scratchFits}
 use Rattle.model.specs.Calls.{out}
-use Rattle.model.specs.Image.{header, imageIn, Written, writeOf, sketchIn, regsIn, compactIn, wordCount, entriesIn, openOf}
-use Rattle.model.specs.Claims.{Again, Reopens}
+use Rattle.model.specs.Image.{header, imageIn, Written, writeOf, sketchIn, regsIn, wordCount, wordsIn, entriesIn, auxIn, openOf}
+use Rattle.model.specs.Claims.{EntryAt, Again, Reopens}
 use Rattle.model.specs.declared.Sketch.{Sketch}
 use Rattle.model.proofs.order.Tells.{tells-true}
 use Rattle.model.proofs.table.Sizes.{sized}
+use Rattle.model.proofs.table.Sifted.{valued-full}
 use Rattle.model.proofs.order.Plain.{plain-cells}
 use Rattle.model.proofs.order.Tests.{Passes, TableFits, counts-tells, good-asks, table-tells}
-use Rattle.model.proofs.image.Entries.{aux-tells}
+use Rattle.model.proofs.image.Entries.{filled-all}
+use Rattle.model.proofs.image.SameSlots.{no-words, aux-other, fits-aux}
 use Rattle.model.proofs.image.Taken.{made-in}
 use Rattle.model.proofs.order.Tests.{scratch-tells}
 use Rattle.model.proofs.image.Opens.{Opens, open-says, lg-arr-tells}
 use Rattle.model.proofs.image.Opening.{areaIn, opens-to}
 use Rattle.model.proofs.image.Fields.{FieldsFit}
-use Rattle.model.proofs.image.Images.{imageOver, over-long, over-sketch, over-regs, over-count, over-entries}
+use Rattle.model.proofs.image.Images.{imageOver, over-long, over-sketch, over-regs, over-count, over-words}
 use Rattle.model.proofs.image.Listing.{listing, listing-small, listing-listed, listing-registers}
 use Rattle.model.proofs.image.Writing.{good-small, image-parts, write-no, write-says, writes}
-
--- an image without exceptions has no words
-no-words : (l : List ℕ) → sketchIn l .«aux_count» ≡ 0 → wordCount l ≡ 0
-unfolding wordCount
-no-words l e = rw e (go (compactIn l))
-  where
-    go : (b : Bool) → _≡_ {A = ℕ} (pick b 0 0) 0
-    go true = refl
-    go false = refl
 
 module _ (s : Sketch) (regs aux rest regs′ aux′ scratch′ : List ℕ) (g : Good s regs aux) (ok : Passes s regs aux)
     (long : length regs′ ≡ length regs) (scratch : scratchFits (s .kind) (length aux′) (length scratch′) ≡ true)
@@ -66,8 +59,15 @@ module _ (s : Sketch) (regs aux rest regs′ aux′ scratch′ : List ℕ) (g : 
   same-bytes : regsIn l ≡ regs
   same-bytes = over-regs s R regs ws rest small (h .long)
 
+  same-words : s .kind ≡ 4 → wordsIn l ≡ ws
+  same-words four = over-words s R regs ws rest small (h .long) four (listing-small s regs aux (table four)) (listing-listed s regs aux (table four) .many)
+
+  none-empty : s .kind ≡ 4 → (i : ℕ) → i < length ws → EntryAt ws i
+  none-empty four i d = valued-full (getD ws i 0) (omega (arith, listing-listed s regs aux (table four) .each i d .0))
+
   same-entries : s .kind ≡ 4 → entriesIn l ≡ ws
-  same-entries four = over-entries s R regs ws rest small (h .long) four (listing-small s regs aux (table four)) (listing-listed s regs aux (table four) .many)
+  unfolding entriesIn
+  same-entries four = ap (λ (us : List ℕ). filled us) (same-words four) ∙ filled-all ws (none-empty four)
 
   -- ---- no rung refuses
   of-four : {P : Type 0} → (s .kind ≡ 4 → P) → sketchIn l .kind ≡ 4 → P
@@ -92,6 +92,12 @@ module _ (s : Sketch) (regs aux rest regs′ aux′ scratch′ : List ℕ) (g : 
       go (yes e) = room e
       go (no e) = rw (none e) zero-le
 
+  nothing-wrong : Dec (s .kind ≡ 4) → auxIn l .no ≡ 0
+  nothing-wrong (yes e) =
+      fits-aux l (ap (λ (r : Sketch). r .kind) same-record ∙ e) (rw (same-record, same-bytes, same-entries e) (listing-listed s regs aux (table e)))
+      (λ i d. subst (λ (us : List ℕ). EntryAt us i) (sym (same-words e)) (none-empty e i (rw (same-words e) at d)))
+  nothing-wrong (no e) = ap (λ (f : Said). f .no) (aux-other l (λ q. e (sym (ap (λ (r : Sketch). r .kind) same-record) ∙ q)))
+
   opens : Opens l (length regs′) (length aux′) (length scratch′)
   unfolding header
   opens =
@@ -106,7 +112,7 @@ module _ (s : Sketch) (regs aux rest regs′ aux′ scratch′ : List ℕ) (g : 
         room = rw same-record roomy;
         bodied = record {
           values = rw (same-record, same-bytes) (ok .values);
-          entries = of-four (λ e. tells-true _ (aux-tells l) (rw (same-record, same-bytes, same-entries e) (listing-listed s regs aux (table e))));
+          entries = nothing-wrong (ℕ-discrete (s .kind) 4);
           spare = rw (same-record, same-bytes) (ok .spare);
           tally = rw (same-record, same-bytes) (ok .tally);
         };

@@ -12,8 +12,7 @@ use lib.ListN.{length, getD, replicate}
 use borrow.Author.Tests.{eqb-true, eqb-false, ne-eqb, le-leb, lt-leb, leb-true}
 use Rattle.model.specs.Pick.{pick}
 use Rattle.model.specs.Coupon.{slot, value, isEmpty}
-use Rattle.model.specs.Table.{Member, used, sifted, keeps}
-use Rattle.model.specs.Image.{filled}
+use Rattle.model.specs.Table.{Member, used, sifted, keeps, filled}
 use Rattle.model.proofs.table.FirstLaws.{true-not-false}
 use Rattle.model.proofs.table.Members.{member-head, member-tail, member-cases, member-none}
 use Rattle.model.proofs.table.Grown.{Distinct}

@@ -18,25 +18,25 @@ few : (c : tie.After-counts) (v : ℕ) → v < 64 → getD (c .counts .result) v
 few c v h = omega (arith, c .counts .ensures .each v h, count-le v (c .before .before .args .regs .now), c .before .before .pre .few)
 
 -- where each line begins, at most
-second : (c : tie.After-put-answer) → c .put-answer .result ≤ 15
+second : (c : tie.After-put-answer) → c .put-answer .result ≤ 17
 second c = answer-ends _ (c .put-answer .ensures)
 
-third : (c : tie.After-put-line) → c .put-line .result ≤ 42
+third : (c : tie.After-put-line) → c .put-line .result ≤ 44
 third c = omega (arith, second (c .before .before .before), line-ends _ _ 19 (c .put-line .ensures) (search needs))
 
-fourth : (c : tie.After-put-line2) → c .put-line2 .result ≤ 50
+fourth : (c : tie.After-put-line2) → c .put-line2 .result ≤ 52
 fourth c = omega (arith, third (c .before .before .before), line-ends _ _ 2 (c .put-line2 .ensures) (search needs))
 
-fifth : (c : tie.After-put-line3) → c .put-line3 .result ≤ 77
+fifth : (c : tie.After-put-line3) → c .put-line3 .result ≤ 79
 fifth c = omega (arith, fourth (c .before .before .before), line-ends _ _ 19 (c .put-line3 .ensures) (few (c .before .before .before .before .before .before .before .before .before .before .before .before .before .before) _ (search needs)))
 
-sixth : (c : tie.After-put-line4) → c .put-line4 .result ≤ 85
+sixth : (c : tie.After-put-line4) → c .put-line4 .result ≤ 87
 sixth c = omega (arith, fifth (c .before .before .before), line-ends _ _ 2 (c .put-line4 .ensures) (search needs))
 
-seventh : (c : tie.After-put-line5) → c .put-line5 .result ≤ 112
+seventh : (c : tie.After-put-line5) → c .put-line5 .result ≤ 114
 seventh c = omega (arith, sixth (c .before .before .before), line-ends _ _ 19 (c .put-line5 .ensures) (search needs))
 
-end : (c : tie.After-put-line6) → c .put-line6 .result ≤ 139
+end : (c : tie.After-put-line6) → c .put-line6 .result ≤ 141
 end c =
     let scaled = c .before .before .before .before .before .before .before .before .before .before .before .before .before .before .before .before .before .before .before .before .before in
     omega (arith, seventh (c .before .before .before), line-ends _ _ 19 (c .put-line6 .ensures) (omega (arith, scaled .scaled-of2 .ok)))

@@ -8,10 +8,10 @@ use Rattle.report.proofs.name_len.Statement.{statement}
 use Rattle.report.proofs.name_len.Tie as tie
 
 abbrev Inv-loop : tie.InvT-loop
-Inv-loop name n₀ n = (n ≤ 7) × Passed name n
+Inv-loop name n₀ n = (n ≤ 9) × Passed name n
 
 abbrev μ-loop : tie.MeasureT-loop
-μ-loop name n₀ n = 7 - n
+μ-loop name n₀ n = 9 - n
 
 loop-holds : tie.Need-loop-holds Inv-loop μ-loop
 loop-holds c = (search needs, refl)

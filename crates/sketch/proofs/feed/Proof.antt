@@ -1,9 +1,11 @@
 -- `sketch::feed` meets its contract: the checks refuse, or kind 4's batch answers, or every coupon is taken. Assumes nothing.
-use mathlib.Core.Path.{_≡_, sym, _∙_}
+use mathlib.Core.Path.{_≡_, sym, _∙_, ap}
 use lib.ListN.{length}
 use denote.Ref.{now}
+use Rattle.model.specs.Answers.{Said}
 use Rattle.model.specs.Check.{scratchFits, checkNo}
 use Rattle.model.proofs.calls.Has.{check-ok}
+use Rattle.model.proofs.calls.Places.{check-place}
 use Rattle.sketch.proofs.Outcomes.{feed-no, four-spare, feed-four, four-no, can-plain, feed-plain}
 use borrow.Author.Needs.{needs}
 use Rattle.sketch.proofs.feed.Statement.{statement}
@@ -18,7 +20,7 @@ passed : (c : tie.Else1) → let a = c .before .before .before .before .before .
 passed c = sym (c .before .before .check .ensures) ∙ sym (c .before .number .ensures) ∙ c .if1 .left
 
 returns : tie.Need-returns
-returns c = feed-no _ _ _ _ (c .before .before .before .before .before .scratch-fits .ensures) _ (c .before .before .check .ensures) (λ e. c .if1 .taken (c .before .number .ensures ∙ e))
+returns c = feed-no _ _ _ _ (c .before .before .before .before .before .scratch-fits .ensures) _ (c .before .before .check .ensures) (check-place (c .before .before .check .result) _ _ _ _ (c .before .before .check .ensures)) (λ e. c .if1 .taken (c .before .number .ensures ∙ e))
 
 feed-requires : tie.Need-feed-requires
 feed-requires c κs =
@@ -40,7 +42,7 @@ returns-2 : tie.Need-returns-2
 returns-2 c =
     let fed = c .before .before .before .before .before .before .before .before in
     let here = fed .before .before .before .before .before .before in
-    feed-four _ _ _ _ (lent here) (passed here) _ (fed .before .before .before .before .if2 .taken) (c .batch-answer .ensures) (fed .feed .ensures)
+    feed-four _ _ _ _ (lent here) (passed here) _ (fed .before .before .before .before .if2 .taken) (ap (λ (f : Said). f .no) (c .batch-answer .ensures)) (ap (λ (f : Said). f .place) (c .batch-answer .ensures)) (fed .feed .ensures)
 
 feed-plain-requires : tie.Need-feed-plain-requires
 feed-plain-requires c κs =

@@ -4,6 +4,7 @@ use mathlib.Core.Bool.{true}
 use denote.Ref.{now}
 use Rattle.model.specs.Check.{checkNo}
 use Rattle.model.specs.Calls.{eightNo}
+use Rattle.model.proofs.calls.Places.{check-place, eight-place}
 use Rattle.sketch.proofs.Merging.{merge-target, merge-source, merge-finer, Accepted, joinable, after-cells, merge-ok}
 use borrow.Author.Needs.{needs}
 use Rattle.sketch.proofs.merge.Statement.{statement}
@@ -16,10 +17,10 @@ source-ok : (c : tie.Else2) → let a = c .before .before .before .before .befor
 source-ok c = sym (c .before .before .check .ensures) ∙ sym (c .before .number2 .ensures) ∙ c .if2 .left
 
 returns : tie.Need-returns
-returns c = merge-target _ _ _ _ _ (c .before .before .check-eight .ensures) (λ e. c .if1 .taken (c .before .number .ensures ∙ e))
+returns c = merge-target _ _ _ _ _ (c .before .before .check-eight .ensures) (eight-place (c .before .before .check-eight .result) _ _ (c .before .before .check-eight .ensures)) (λ e. c .if1 .taken (c .before .number .ensures ∙ e))
 
 returns-2 : tie.Need-returns-2
-returns-2 c = merge-source _ _ _ _ _ (target-ok (c .before .before .before)) (c .before .before .check .ensures) (λ e. c .if2 .taken (c .before .number2 .ensures ∙ e))
+returns-2 c = merge-source _ _ _ _ _ (target-ok (c .before .before .before)) (c .before .before .check .ensures) (check-place (c .before .before .check .result) _ _ _ _ (c .before .before .check .ensures)) (λ e. c .if2 .taken (c .before .number2 .ensures ∙ e))
 
 returns-3 : tie.Need-returns-3
 returns-3 c = merge-finer _ _ _ _ _ (target-ok (c .before .before .before .before .before .before)) (source-ok (c .before .before .before)) (c .if3 .taken)

@@ -9,6 +9,7 @@ use Rattle.model.specs.Check.{shapeNo}
 use Rattle.model.specs.Calls.{madeOut}
 use Rattle.model.specs.declared.Made.{Made}
 use Rattle.model.proofs.calls.Ladder.{shape-says}
+use Rattle.model.proofs.calls.Places.{shape-place}
 use Rattle.sketch.proofs.Outcomes.{start-no, start-ok}
 use borrow.Author.Needs.{needs}
 use Rattle.sketch.proofs.start.Statement.{statement}
@@ -21,7 +22,7 @@ returns : tie.Need-returns
 returns c =
     let a = c .before .before .before .before .before .before .args in
     ap (λ (m : Made). madeOut m (now (a .regs)) (now (a .aux))) (c .refused .ensures)
-    ∙ start-no _ _ _ _ (c .before .before .before .check-shape .ensures) (λ e. c .before .if1 .taken (c .before .before .number .ensures ∙ e))
+    ∙ start-no _ _ _ _ (c .before .before .before .check-shape .ensures) (shape-place (c .before .before .before .check-shape .result) _ _ _ (c .before .before .before .check-shape .ensures)) (λ e. c .before .if1 .taken (c .before .before .number .ensures ∙ e))
 
 num-registers-requires : tie.Need-num-registers-requires
 num-registers-requires c κs = shape-says _ _ _ .0 (passed c) .high

@@ -1,5 +1,6 @@
 -- `c_api::calls::lp_merge` meets its contract: the call's own promise, with the record read out of the words. Assumes nothing.
-use Rattle.c_api.proofs.Handing.{handing}
+use Rattle.model.proofs.calls.Places.{merge-place}
+use Rattle.c_api.proofs.Handing.{handing-none}
 use borrow.Author.Needs.{needs}
 use Rattle.c_api.proofs.calls.lp_merge.Statement.{statement}
 use Rattle.c_api.proofs.calls.lp_merge.Tie as tie
@@ -7,7 +8,7 @@ use Rattle.c_api.proofs.calls.lp_merge.Tie as tie
 returns : tie.Need-returns
 returns c =
     let merged = c .before .before .before .before .before .before in
-    handing _ (rw (merged .before .before .before .get .ensures, merged .before .get2 .ensures) at (merged .merge .ensures)) (c .before .put .ensures) (c .number .ensures)
+    handing-none _ (rw (merged .before .before .before .get .ensures, merged .before .get2 .ensures) at (merged .merge .ensures)) (c .before .put .ensures) (c .number .ensures) (merge-place _ _ _ _ _)
 
 pub lp-merge-spec : {M : Type 1} → statement M
 lp-merge-spec =

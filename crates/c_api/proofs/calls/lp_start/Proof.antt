@@ -1,5 +1,6 @@
 -- `c_api::calls::lp_start` meets its contract: the call's own promise, with the record read out of the words. Assumes nothing.
-use Rattle.c_api.proofs.Handing.{handing}
+use Rattle.model.proofs.calls.Places.{start-place}
+use Rattle.c_api.proofs.Handing.{handing-none}
 use borrow.Author.Needs.{needs}
 use Rattle.c_api.proofs.calls.lp_start.Statement.{statement}
 use Rattle.c_api.proofs.calls.lp_start.Tie as tie
@@ -7,7 +8,7 @@ use Rattle.c_api.proofs.calls.lp_start.Tie as tie
 returns : tie.Need-returns
 returns c =
     let started = c .before .before .before .before .before .before .before .before in
-    handing _ (rw (started .before .before .before .before .narrow .ensures, started .before .before .before .narrow2 .ensures) at (started .start .ensures)) (c .before .put .ensures) (c .number .ensures)
+    handing-none _ (rw (started .before .before .before .before .narrow .ensures, started .before .before .before .narrow2 .ensures) at (started .start .ensures)) (c .before .put .ensures) (c .number .ensures) (start-place _ _ _ _)
 
 pub lp-start-spec : {M : Type 1} → statement M
 lp-start-spec =

@@ -1,0 +1,66 @@
+//! Good images with something changed at random.
+
+use crate::examples::Random;
+use crate::model::number;
+
+/// One to three bytes changed, mostly where an image has its meaning; at times the end cut.
+pub fn anywhere(random: &mut Random, image: &[u8]) -> Vec<u8> {
+    let mut image = image.to_vec();
+    for _ in 0..1 + random.below(3) {
+        let at = match random.below(4) {
+            0 => random.below(8),
+            1 => 32 + random.below(8),
+            _ => 40 + random.below(image.len() as u32 - 40),
+        } as usize;
+        image[at] = match random.below(4) {
+            0 => random.below(256) as u8,
+            1 => 0,
+            2 => image[at].wrapping_add(1),
+            _ => image[at] ^ 1 << random.below(8),
+        };
+    }
+    if random.below(16) == 0 {
+        image.pop();
+    }
+    image
+}
+
+/// One to three changes of what document 02's five answers speak of: kind 4's exception words, its
+/// nibbles, the count. Images of other kinds are left as they are.
+pub fn exceptions(random: &mut Random, image: &[u8]) -> Vec<u8> {
+    let mut image = image.to_vec();
+    if image[7] != 2 {
+        return image;
+    }
+    let (k, low) = (1u32 << image[3], image[6] as u32);
+    let start = 40 + k as usize / 2;
+    let words = (image.len() - start) as u32 / 4;
+    for _ in 0..1 + random.below(3) {
+        let change = if words == 0 { random.below(2) } else { random.below(8) };
+        match change {
+            0 => {
+                let (at, nibble) = (random.below(k), [0, 14, 15, 15][random.below(4) as usize]);
+                let byte = &mut image[40 + at as usize / 2];
+                *byte = *byte & 0xf0 >> (at % 2 * 4) | nibble << (at % 2 * 4);
+            }
+            1 => image[36] = image[36].wrapping_add([1, 2, 254, 255][random.below(4) as usize]),
+            _ => {
+                let [at, other] = [0; 2].map(|_| start + 4 * random.below(words) as usize);
+                let [word, other] = [at, other].map(|at| number(&image, at));
+                let (value, slot, other) = (word >> 26, word % (1 << 26), other % (1 << 26));
+                let word = match change {
+                    // Another word's slot, by its own number or by one that is the same modulo k.
+                    2 | 3 => random.coupon(k, other % k, value.max(15)),
+                    // Empty, whatever its slot.
+                    4 => [0, slot, other][random.below(3) as usize],
+                    // A value beside the least that an exception has.
+                    5 => (low + 13 + random.below(4)).min(63) << 26 | slot,
+                    // Any slot, at times where no word was.
+                    _ => (low + 15 + random.below(9)).min(63) << 26 | random.below(1 << 26),
+                };
+                image[at..at + 4].copy_from_slice(&word.to_le_bytes());
+            }
+        }
+    }
+    image
+}
