@@ -1,4 +1,5 @@
-/* Starts, feeds, merges, sums, writes and opens over the C interface, and checks what comes back: it ends with status 0 if all is as it should be. */
+/* Starts, feeds, merges, sums, writes, opens and feeds images over the C interface, and checks what comes back: it ends with status 0 if all is
+ * as it should be. */
 #include "lintelpear.h"
 
 #include <stdio.h>
@@ -36,13 +37,105 @@ static void put(uint8_t *at, uint32_t word)
         at[i] = (uint8_t)(word >> 8 * i);
 }
 
+/* A sketch of kind 4 that lists and sets are fed to, and how many coupons were taken. */
+static uint32_t few[5], some[AREA];
+static uint8_t nibbles[K / 2];
+static size_t taken;
+
+static uint32_t feed_image(size_t area, const uint8_t *image, size_t len)
+{
+    place = taken = 99;
+    return lp_feed_image(few, nibbles, sizeof nibbles, some, area, scratch, area, image, len, &taken, &place);
+}
+
+/* Refused by this number, with nothing taken or written and no place told. */
+static void refused(uint32_t answer, const uint8_t *image, size_t len, const char *what)
+{
+    uint32_t record[5], words[AREA];
+    uint8_t bytes[sizeof nibbles];
+    memcpy(record, few, sizeof few);
+    memcpy(words, some, sizeof some);
+    memcpy(bytes, nibbles, sizeof nibbles);
+    expect(feed_image(AREA, image, len) == answer && place == 0, what);
+    expect(taken == 0 && !memcmp(record, few, sizeof few) && !memcmp(words, some, sizeof some) && !memcmp(bytes, nibbles, sizeof nibbles),
+           "and nothing was taken or written");
+}
+
+/* The same of an image with one byte replaced, which is then put back. */
+static void replaced(size_t at, uint8_t byte, uint32_t answer, uint8_t *image, size_t len, const char *what)
+{
+    const uint8_t kept = image[at];
+    image[at] = byte;
+    refused(answer, image, len, what);
+    image[at] = kept;
+}
+
+/* Coupon lists and sets, which are sent while there are few coupons. */
+static void lists(void)
+{
+    uint8_t registers[K], list[8 + 4 * 4] = { 2, 1, 7, LG_K, 3, 8, 4, 8 }, set[12 + 4 * 4] = { 3, 1, 7, LG_K + 1, 5, 8, 0, 9, 4 };
+    const size_t list_len = sizeof list, set_len = sizeof set;
+    for (uint32_t i = 0; i < 4; i++) {
+        put(list + 8 + 4 * i, coupon(i, 20));
+        put(set + 12 + 4 * i, coupon(K + i, 21 + i));
+    }
+    expect(lp_start(4, LG_K, few, nibbles, sizeof nibbles, some, AREA) == LP_OK, "start for a list");
+    expect(feed_image(AREA, list, list_len) == LP_OK && taken == 4 && place == 0, "a list of four");
+    expect(feed_image(AREA, set, set_len) == LP_OK && taken == 4 && place == 0, "a set of four, of a finer sketch");
+    expect(lp_unpack(few, nibbles, sizeof nibbles, some, AREA, registers, K) == LP_OK, "unpack after them");
+    expect(registers[0] == 21 && registers[3] == 24 && registers[4] == 0, "each slot holds its largest value");
+    list[6] = set[8] = 0;
+    expect(feed_image(AREA, list, 8) == LP_OK && taken == 0, "a list of none");
+    expect(feed_image(AREA, set, 12) == LP_OK && taken == 0, "a set of none");
+    list[6] = set[8] = 4;
+
+    /* What is wrong with the sketch comes first. */
+    few[0] = 5;
+    refused(LP_KIND, list, 0, "a sketch of kind 5");
+    few[0] = 4, few[1] = 3;
+    refused(LP_LGK, list, 0, "a sketch of lg_k 3");
+    few[1] = LG_K - 1;
+    refused(LP_SIZE, list, 0, "register bytes of another lg_k");
+    few[1] = LG_K, few[3] ^= 1;
+    refused(LP_DAMAGED, list, 0, "a damaged record");
+    few[3] ^= 1;
+
+    /* Then what is wrong with the image, in this order. */
+    refused(LP_SHORT, list, 7, "seven bytes");
+    replaced(0, 10, LP_HEADER, list, list_len, "byte 0 of registers");
+    replaced(1, 2, LP_HEADER, list, list_len, "another version");
+    replaced(2, 8, LP_HEADER, set, set_len, "another family");
+    refused(LP_SHORT, set, 11, "eleven bytes of a set");
+    replaced(7, 9, LP_MODE, list, list_len, "a list with a set's mode");
+    replaced(7, 8, LP_MODE, set, set_len, "a set with a list's mode");
+    replaced(3, 22, LP_LGK, list, list_len, "lg_k 22");
+    replaced(5, 4, LP_FORM, set, set_len, "no compact flag");
+    refused(LP_SHORT, list, list_len - 1, "a byte short");
+    replaced(11, 255, LP_SHORT, set, set_len, "more words than bytes can be");
+    replaced(3, LG_K - 1, LP_FINER, list, list_len, "an image that is coarser than the sketch");
+    put(list + 8 + 4 * 3, 0);
+    put(set + 12 + 4 * 1, 0);
+    put(set + 12 + 4 * 2, 0);
+    expect(feed_image(AREA, list, list_len) == LP_LISTEMPTY && taken == 0 && place == 3, "word 3 of a list is zero");
+    expect(feed_image(AREA, set, set_len) == LP_LISTEMPTY && taken == 0 && place == 1, "word 1 of a set is zero, and then word 2");
+    put(list + 8 + 4 * 3, coupon(3, 20));
+    put(set + 12 + 4 * 1, coupon(K + 1, 0));
+    put(set + 12 + 4 * 2, coupon(K + 2, 0));
+    expect(feed_image(AREA, set, set_len) == LP_OK && taken == 4 && place == 0, "words of value 0 raise nothing");
+
+    /* An area of four words holds three exceptions. */
+    expect(lp_start(4, LG_K, few, nibbles, sizeof nibbles, some, 4) == LP_OK, "start over for a list");
+    expect(feed_image(4, list, list_len) == LP_NO_ROOM && place == 0, "no room for a fourth exception of a list");
+    expect(taken == 3 && few[4] == 3, "three of a list are taken");
+}
+
 int main(void)
 {
     /* Kind 4 with an exception: slot 3 at 2, slot 19 at 40. */
     static uint32_t record[5], aux[AREA], none[1];
     static uint8_t regs[K / 2], registers[K];
     const uint32_t coupons[] = { coupon(3, 2), coupon(19, 40), coupon(3, 1) };
-    size_t taken = 99;
+    taken = 99;
     expect(lp_start(4, LG_K, record, regs, sizeof regs, aux, AREA) == LP_OK, "start of kind 4");
     expect(lp_feed(record, regs, sizeof regs, aux, AREA, scratch, AREA, coupons, 3, &taken) == LP_OK, "feed");
     expect(taken == 3, "all three coupons are taken");
@@ -119,5 +212,6 @@ int main(void)
     put(words + 28, coupon(1, 20));
     expect(open_image(image, len) == LP_AUX_TWICE && place == 7, "slot 1 again in word 7, behind the count");
 
+    lists();
     return faults != 0;
 }

@@ -3,7 +3,10 @@
 use crate::ours::Ours;
 use crate::rust::{Bare, Rust};
 use crate::side::Side;
+use oracle::Door;
 use oracle::examples::Random;
+use oracle::hll::{HllSketch, HllType};
+use std::collections::HashSet;
 
 /// So many coupons, or registers of several sketches, that no processor learns by heart what becomes of each.
 pub const MANY: usize = 1 << 18;
@@ -20,6 +23,14 @@ pub fn coupons(seed: u64, count: usize) -> Vec<u32> {
     };
     let coupon = |x: u64| (x.leading_zeros().min(62) + 1) << 26 | x as u32 & ((1 << 26) - 1);
     (0..count).map(|_| coupon(next())).collect()
+}
+
+/// The image of so many different coupons that the Rust writes: a list, or a set in its table's order.
+pub fn few(lg_k: u8, seed: u64, count: usize) -> Vec<u8> {
+    let (mut sketch, mut met) = (HllSketch::new(lg_k, HllType::Hll8).unwrap(), HashSet::new());
+    let fresh = coupons(seed, 2 * count).into_iter().filter(|coupon| met.insert(*coupon));
+    Door::feed(&mut sketch, &fresh.take(count).collect::<Vec<_>>());
+    sketch.serialize()
 }
 
 pub const CROWDED: &str = ", crowded";

@@ -4,6 +4,7 @@
 mod feed;
 mod images;
 mod input;
+mod lists;
 mod merge;
 mod ours;
 mod race;
@@ -35,6 +36,7 @@ fn measure() -> Result<(), String> {
     let mut sketches = filled([4, 8, 12, 16, 21]);
     feed::batches(&sketches)?;
     feed::as_long(&sketches)?;
+    lists::all(&sketches)?;
     unpack::all(&sketches)?;
     merge::all(&sketches, 0)?;
     // The least target has lg_k 4.

@@ -39,6 +39,11 @@ impl Side for Ours {
         record.feed(regs, aux, scratch, coupons).answer.unwrap();
     }
 
+    fn feed_image(&mut self, image: &[u8]) {
+        let Ours { record, regs, aux, scratch } = self;
+        record.feed_image(regs, aux, scratch, image).answer.unwrap();
+    }
+
     fn unpack(&self, out: &mut [u8]) {
         self.record.unpack(&self.regs, &self.aux, out).unwrap();
     }

@@ -20,6 +20,12 @@ macro_rules! side {
                 $krate::Door::feed(&mut self.0, coupons);
             }
 
+            /// For kind 8 a `HllUnion` does the same, but looks for the kind at every coupon; for the others the crate has no way of its own.
+            fn feed_image(&mut self, image: &[u8]) {
+                let few = $krate::hll::HllSketch::deserialize(image).unwrap();
+                $krate::Door::feed_few(&mut self.0, &few);
+            }
+
             fn unpack(&self, out: &mut [u8]) {
                 $krate::Door::unpack(&self.0, out);
             }

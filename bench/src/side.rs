@@ -5,6 +5,8 @@ pub trait Side: Clone {
     type Target: Clone;
 
     fn feed(&mut self, coupons: &[u32]);
+    /// The coupons of a list or a set.
+    fn feed_image(&mut self, image: &[u8]);
     fn unpack(&self, out: &mut [u8]);
     fn target(&self) -> Self::Target;
     fn merge(target: &mut Self::Target, source: &Self);

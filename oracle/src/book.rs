@@ -1,26 +1,51 @@
-//! The examples as a file of the crate `model_cases`, whose claim the proof checker computes: what the
-//! Rust answers, beside what it was asked. Lists of numbers are written as one number in hex,
+//! The examples, and a few of lists and sets, as a file of the crate `model_cases`, whose claim the proof
+//! checker computes: what the Rust answers, beside what it was asked. Lists of numbers are written as one number in hex,
 //! lowest digit first, since the checker reads a long numeral faster than a long list.
 
+use crate::examples::{self, Random, coupons, few, history};
 use crate::request::Request;
-use crate::{Answer, Recipe, State, examples};
+use crate::{Answer, Recipe, State, run};
 
 /// So few to a claim that the checker can compute one within its bound on steps.
 const CHUNK: usize = 80;
 
+/// A list or a set with each so many other cases.
+const SHARE: u64 = 20;
+
 pub fn book(n: u64, seed: u64) -> String {
-    let cases: Vec<String> = examples::examples(n, seed).filter_map(|request| case(&request)).collect();
+    let random = &mut Random::new(seed + 1);
+    let cases: Vec<String> = examples::examples(n, seed)
+        .filter_map(|request| case(&request))
+        .chain((0..n / SHARE).map(|i| fed_image(random, i as usize)))
+        .collect();
     let mut text = String::from(HEAD);
     for (i, chunk) in cases.chunks(CHUNK).enumerate() {
-        text += &format!("\nunfoldable pub cases{i} : List Case\ncases{i} =\n    {}\n    ∷ []\n", chunk.join("\n    ∷ "));
+        text += &format!(
+            "\nunfoldable pub cases{i} : List Case\ncases{i} =\n    {}\n    ∷ []\n",
+            chunk.join("\n    ∷ ")
+        );
     }
     text
+}
+
+/// A history, and then the coupons of a list or a set, from its image: of each kind first a list, then sets, which begin with lg_k 8.
+fn fed_image(random: &mut Random, i: usize) -> String {
+    let mut recipe = history(random, [4, 4, 6, 8][i % 4], 8);
+    let source = source(&recipe).unwrap();
+    let Recipe::History { lg_k, coupons: fed, .. } = &mut recipe else { unreachable!() };
+    let plan = random.below(4);
+    let coupons = coupons(random, *lg_k, plan, 24);
+    let few = few(random, [*lg_k, 8, 9][i / 4 % 3], coupons);
+    fed.extend(few.words);
+    let answer = run(&recipe);
+    let Answer::Ok(state) = answer else { unreachable!("answered {answer}") };
+    format!("fed ({source}) {} {}", bytes(&few.image), image(&state))
 }
 
 const HEAD: &str = "\
 -- Made by `oracle book`: requests, and what the Rust answers to them. `oracle/test` makes it again and compares.
 use mathlib.Core.List.{List, [], _∷_}
-use Rattle.model_cases.specs.Play.{Case, history, merged, opened, refused, source, words, bytes}
+use Rattle.model_cases.specs.Play.{Case, history, merged, opened, refused, fed, source, words, bytes}
 ";
 
 fn case(request: &Request) -> Option<String> {
@@ -29,13 +54,20 @@ fn case(request: &Request) -> Option<String> {
             format!("history ({}) {}", source(recipe)?, image(&state))
         }
         (Request::Run(Recipe::Open { image: from, coupons }), answer) => match answer {
-            Answer::Ok(state) => format!("opened {} {} {}", bytes(from), words(coupons), image(&state)),
+            Answer::Ok(state) => {
+                format!("opened {} {} {}", bytes(from), words(coupons), image(&state))
+            }
             Answer::Error(_) => format!("refused {}", bytes(from)),
-            Answer::Panic(_) => return None,
+            Answer::Few(_) | Answer::Panic(_) => return None,
         },
         (Request::Merge { target, sources }, Answer::Ok(state)) => {
             let sources: Option<Vec<String>> = sources.iter().map(source).collect();
-            format!("merged ({}) ({} ∷ []) {}", source(target)?, sources?.join(" ∷ "), image(&state))
+            format!(
+                "merged ({}) ({} ∷ []) {}",
+                source(target)?,
+                sources?.join(" ∷ "),
+                image(&state)
+            )
         }
         _ => return None,
     })

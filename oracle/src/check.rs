@@ -1,9 +1,11 @@
 //! The Rust against the model of document 01, over random histories: registers, record,
 //! exception table and image after each; the image opened in three forms and fed on; merges;
 //! and images damaged at random, which the Rust may open only where document 01 is stricter.
+//! Lists and sets are compared in `list_check.rs`.
 
 use crate::damage;
 use crate::examples::{Random, coupons, listed, spread};
+use crate::list_check;
 use crate::model::{Model, lists_valueless, refusal};
 use crate::{Answer, Recipe, State, hex, merge, run, union};
 use std::collections::BTreeMap;
@@ -95,8 +97,9 @@ pub fn check(n: u64, seed: u64) -> Result<String, String> {
         "{n} histories of up to {most} coupons, lg_k 4 to 10 ({rises} raised cur_min, {tables} ended \
          with exceptions, the largest table {largest} words); {} opens of their images in three \
          forms, half of them fed on; {n} merges and {unions} unions of two sources; 22 \
-         histories of exceptions, lg_k 11 to 21: all as the model says\n{damaged}",
-        6 * n
+         histories of exceptions, lg_k 11 to 21: all as the model says\n{damaged}\n{}",
+        6 * n,
+        list_check::check(n, seed)?
     ))
 }
 

@@ -1,6 +1,7 @@
 //! Good images with something changed at random.
 
 use crate::examples::Random;
+use crate::lists::Layout;
 use crate::model::number;
 
 /// One to three bytes changed, mostly where an image has its meaning; at times the end cut.
@@ -61,6 +62,42 @@ pub fn exceptions(random: &mut Random, image: &[u8]) -> Vec<u8> {
                 image[at..at + 4].copy_from_slice(&word.to_le_bytes());
             }
         }
+    }
+    image
+}
+
+/// One to three changes of a list or a set: a byte, mostly of its head; a word that is zero, of no value or there already; bytes behind
+/// the end. At times the end cut.
+pub fn coupons(random: &mut Random, image: &[u8]) -> Vec<u8> {
+    let mut image = image.to_vec();
+    let start = Layout::of(image[0]).expect("a list or a set").start();
+    let words = (image.len() - start) as u32 / 4;
+    for _ in 0..1 + random.below(3) {
+        match random.below(if words == 0 { 6 } else { 8 }) {
+            0..=3 => {
+                let at = random.below(start as u32) as usize;
+                image[at] = match random.below(4) {
+                    0 => random.below(256) as u8,
+                    1 => image[at].wrapping_add(1),
+                    2 => image[at].wrapping_sub(1),
+                    _ => image[at] ^ 1 << random.below(8),
+                };
+            }
+            4 => image.extend((0..1 + random.below(9)).map(|_| random.below(256) as u8)),
+            5 => {
+                let at = random.below(image.len() as u32) as usize;
+                image[at] ^= 1 << random.below(8);
+            }
+            _ => {
+                let [at, other] = [0; 2].map(|_| start + 4 * random.below(words) as usize);
+                let slot = random.below(1 << 26);
+                let word = [0, slot, number(&image, other)][random.below(3) as usize];
+                image[at..at + 4].copy_from_slice(&word.to_le_bytes());
+            }
+        }
+    }
+    if random.below(8) == 0 {
+        image.truncate(random.below(image.len() as u32) as usize);
     }
     image
 }

@@ -1,8 +1,9 @@
 //! Small histories, images and merges, drawn from a seed: made to raise cur_min several times,
 //! to let the exception table grow, shrink and be rebuilt, and to touch the edges of a nibble.
 
+use crate::lists;
 use crate::request::Request;
-use crate::{Answer, Recipe, run};
+use crate::{Answer, Few, Recipe, run};
 
 /// SplitMix64: the same numbers from the same seed, everywhere.
 pub struct Random(u64);
@@ -126,6 +127,17 @@ pub fn coupons(random: &mut Random, lg_k: u8, plan: u32, most: u32) -> Vec<u32> 
     }
     coupons.truncate(most.max(k) as usize);
     coupons
+}
+
+/// The list or the set that the Rust has of the first of these coupons, as many as it may have at this lg_k or fewer.
+pub fn few(random: &mut Random, lg_k: u8, mut coupons: Vec<u32>) -> Few {
+    let most = lists::most(lg_k) as u32;
+    coupons.retain(|coupon| *coupon != 0);
+    coupons.truncate(if random.below(2) == 0 { most } else { random.below(most) } as usize);
+    let kind = [4, 6, 8][random.below(3) as usize];
+    let answer = run(&Recipe::FromList { kind, lg_k, coupons });
+    let Answer::Few(few) = answer else { unreachable!("answered {answer}") };
+    few
 }
 
 /// An image the Rust wrote, told in another way that means the same, or cut short; then

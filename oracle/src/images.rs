@@ -3,6 +3,7 @@
 //! is a good one with a few bytes changed.
 
 use crate::samples::{image, seen};
+use crate::{Answer, Recipe, run};
 
 fn coupon(slot: u32, value: u32) -> u32 {
     value << 26 | slot
@@ -217,4 +218,15 @@ pub fn exceptions() -> Vec<(&'static str, Vec<u8>)> {
         ("most-twice", second(&most, 13, &twice)),
         ("most-nibble", with(&most, 40 + 2047, &[0xff])),
     ]
+}
+
+/// What the Rust writes of few coupons: a list and a set, whole, and a list that bytes behind it make as long as a header.
+pub fn coupons() -> Vec<(&'static str, Vec<u8>)> {
+    let few = |many: u32| {
+        let coupons = (0..many).map(|slot| coupon(slot, 1 + slot)).collect();
+        let answer = run(&Recipe::FromList { kind: 8, lg_k: 8, coupons });
+        let Answer::Few(few) = answer else { unreachable!("answered {answer}") };
+        few.image
+    };
+    vec![("coupon-list", few(7)), ("coupon-list-40", to(&few(7), 40)), ("coupon-set", few(8))]
 }

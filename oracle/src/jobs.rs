@@ -253,6 +253,13 @@ fn exceptions(cases: &mut Cases) {
     }
 }
 
+/// Lists and sets of coupons are no images of registers: the program does not read them.
+fn coupons(cases: &mut Cases) {
+    cases.refused("SHORT", 1, "coupon-list");
+    cases.refused("HEADER", 2, "coupon-list-40");
+    cases.refused("HEADER", 3, "coupon-set");
+}
+
 /// The output can't be written: its folder is missing; it is a folder; it is a device, which takes
 /// no byte and is not to be replaced by a file, as a second run shows.
 fn outputs(cases: &mut Cases) {
@@ -343,7 +350,7 @@ pub fn lay_out(folder: &Path, disk: &Disk) -> io::Result<()> {
 
 /// Makes the files of both crates in folders of their names; says how many jobs have each answer.
 pub fn write(folder: &Path) -> io::Result<String> {
-    let images: Vec<_> = [good(), bad(), images::exceptions()].concat();
+    let images: Vec<_> = [good(), bad(), images::exceptions(), images::coupons()].concat();
     let images = images.into_iter().map(|(name, image)| (name.to_string(), image));
     let images = Disk(images.collect());
     let mut cases = Cases(Vec::new());
@@ -352,6 +359,7 @@ pub fn write(folder: &Path) -> io::Result<String> {
     outputs(&mut cases);
     texts(&mut cases);
     exceptions(&mut cases);
+    coupons(&mut cases);
 
     let mut disk = images.clone();
     for (n, case) in cases.0.iter().enumerate() {

@@ -1,11 +1,12 @@
 //! The oracle: what the original Rust, compiled unchanged, answers to histories of coupons,
-//! to images and to merges. Every answer is a state, an error or a caught panic.
+//! to images and to merges. Every answer is a state, of registers or of few coupons, an error or a caught panic.
 
 use std::fmt;
 use std::panic::{self, AssertUnwindSafe};
 use std::sync::Once;
 
 use hll::{HllSketch, HllType, HllUnion};
+use lists::Layout;
 
 // The crate's modules, at the root because they name one another from there.
 include!(concat!(env!("OUT_DIR"), "/modules.rs"));
@@ -18,6 +19,9 @@ pub mod damage;
 pub mod examples;
 pub mod images;
 pub mod jobs;
+pub mod list_cases;
+pub mod list_check;
+pub mod lists;
 pub mod model;
 pub mod program;
 pub mod replay;
@@ -59,15 +63,28 @@ pub struct State {
     pub image: Vec<u8>,
 }
 
+/// The same of a sketch that has no registers yet: a list or a set.
+#[derive(Clone, Debug, PartialEq)]
+pub struct Few {
+    pub kind: u8,
+    pub lg_k: u8,
+    pub layout: Layout,
+    /// As the Rust counts them: a zero word, which is none, is counted too.
+    pub count: usize,
+    pub words: Vec<u32>,
+    pub image: Vec<u8>,
+}
+
 #[derive(Clone, Debug, PartialEq)]
 pub enum Answer {
     Ok(State),
+    Few(Few),
     Error(String),
     Panic(String),
 }
 
 pub fn run(recipe: &Recipe) -> Answer {
-    guard(|| state(&make(recipe)?))
+    guard(|| Ok(shown(&make(recipe)?)))
 }
 
 /// Merges the sources in turn into a target of kind 8.
@@ -77,7 +94,7 @@ pub fn merge(target: &Recipe, sources: &[Recipe]) -> Answer {
         for source in sources {
             Door::merge(&mut target, &make(source)?)?;
         }
-        state(&target)
+        Ok(shown(&target))
     })
 }
 
@@ -88,7 +105,7 @@ pub fn union(lg_k: u8, kind: u8, sources: &[Recipe]) -> Answer {
         for source in sources {
             union.update(&make(source)?);
         }
-        state(&union.to_sketch(hll_type(kind)))
+        Ok(shown(&union.to_sketch(hll_type(kind))))
     })
 }
 
@@ -106,19 +123,22 @@ fn make(recipe: &Recipe) -> Result<HllSketch, String> {
     Ok(sketch)
 }
 
-fn state(sketch: &HllSketch) -> Result<State, String> {
-    let registers = Door::registers(sketch).ok_or("a list or a set, not registers")?;
-    let image = sketch.serialize();
-    Ok(State {
-        kind: match sketch.target_type() {
-            HllType::Hll4 => 4,
-            HllType::Hll6 => 6,
-            HllType::Hll8 => 8,
-        },
-        lg_k: sketch.lg_config_k(),
+fn shown(sketch: &HllSketch) -> Answer {
+    let (lg_k, image) = (sketch.lg_config_k(), sketch.serialize());
+    let kind = match sketch.target_type() {
+        HllType::Hll4 => 4,
+        HllType::Hll6 => 6,
+        HllType::Hll8 => 8,
+    };
+    if let Some((layout, count, words)) = Door::coupons(sketch) {
+        return Answer::Few(Few { kind, lg_k, layout, count, words, image });
+    }
+    Answer::Ok(State {
+        kind,
+        lg_k,
         cur_min: image[6],
         num_at_cur_min: u32::from_le_bytes(image[32..36].try_into().unwrap()),
-        registers,
+        registers: Door::registers(sketch).unwrap(),
         table: table(sketch),
         image,
     })
@@ -149,7 +169,7 @@ fn text(error: error::Error) -> String {
 }
 
 /// Runs the Rust; a panic becomes an answer and prints nothing.
-fn guard(work: impl FnOnce() -> Result<State, String>) -> Answer {
+fn guard(work: impl FnOnce() -> Result<Answer, String>) -> Answer {
     static SILENCE: Once = Once::new();
     SILENCE.call_once(|| {
         let loud = panic::take_hook();
@@ -163,7 +183,7 @@ fn guard(work: impl FnOnce() -> Result<State, String>) -> Answer {
     let outcome = panic::catch_unwind(AssertUnwindSafe(work));
     GUARDED.set(false);
     match outcome {
-        Ok(Ok(state)) => Answer::Ok(state),
+        Ok(Ok(answer)) => answer,
         Ok(Err(text)) => Answer::Error(text),
         Err(load) => Answer::Panic(
             load.downcast_ref::<String>()
@@ -202,6 +222,16 @@ impl fmt::Display for Answer {
                 hex(&s.registers),
                 words(&s.table),
                 hex(&s.image)
+            ),
+            Answer::Few(few) => write!(
+                f,
+                "{} kind={} lgk={} count={} words={} image={}",
+                few.layout,
+                few.kind,
+                few.lg_k,
+                few.count,
+                words(&few.words),
+                hex(&few.image)
             ),
             Answer::Error(text) => write!(f, "error {}", line(text)),
             Answer::Panic(text) => write!(f, "panic {}", line(text)),

@@ -1,15 +1,18 @@
-//! The lists of the crate `replay`: histories, images and merges, each line with what the Rust
-//! answers; and images with document 02's numbers and places, which the Rust does not have.
+//! The lists of the crate `replay`: histories, images and merges, lists and sets, each line with what
+//! the Rust answers; and images with document 02's numbers and places, which the Rust does not have.
 //! crates/replay/src/main.rt says what a line means and which image bytes are free.
 
 use crate::aux_cases;
 use crate::damage;
-use crate::examples::{Random, coupons, listed, spread};
+use crate::examples::{Random, coupons, few, listed, spread};
+use crate::list_cases;
+use crate::lists;
 use crate::model::{refusal, said};
-use crate::{Answer, Recipe, State, hex, merge, run};
+use crate::{Answer, Few, Recipe, State, hex, merge, run};
 
-/// What the replaying program has memory for.
+/// What the replaying program has memory for: a sketch's lg_k, and the bytes of a line.
 const LARGEST: u8 = 10;
+const LONGEST: usize = 16384;
 
 struct List(String);
 
@@ -31,8 +34,9 @@ impl List {
         }
     }
 
-    fn answer(&mut self, image: &[u8], (number, place): (u8, u32)) {
-        self.bytes('A', &[&[number], &place.to_be_bytes()[..], image].concat());
+    /// What an image is answered, A if it is opened and B if it is fed to the sketch at hand.
+    fn answer(&mut self, letter: char, image: &[u8], (number, place): (u8, u32)) {
+        self.bytes(letter, &[&[number], &place.to_be_bytes()[..], image].concat());
     }
 
     /// All that a sketch shows; `image` is I or J.
@@ -53,15 +57,25 @@ impl List {
         let mut state = self.shown(run(&recipe), image);
         for batch in batches {
             self.words('F', &batch);
-            match &mut recipe {
-                Recipe::History { coupons, .. } | Recipe::Open { coupons, .. } => {
-                    coupons.extend(batch)
-                }
-                Recipe::FromList { .. } => unreachable!(),
-            }
+            recipe.feed(batch);
             state = self.shown(run(&recipe), image);
         }
         (recipe, state)
+    }
+
+    /// A sketch at hand that has something, and is not shown.
+    fn made(&mut self, random: &mut Random, kind: u8, lg_k: u8) {
+        self.start(&empty(kind, lg_k));
+        self.words('F', &some(random, lg_k));
+    }
+}
+
+impl Recipe {
+    fn feed(&mut self, batch: Vec<u32>) {
+        match self {
+            Recipe::History { coupons, .. } | Recipe::Open { coupons, .. } => coupons.extend(batch),
+            Recipe::FromList { .. } => unreachable!(),
+        }
     }
 }
 
@@ -69,7 +83,7 @@ fn empty(kind: u8, lg_k: u8) -> Recipe {
     Recipe::History { kind, lg_k, coupons: Vec::new() }
 }
 
-/// N stories, of a sketch each, its image and what becomes of it.
+/// N stories, of a sketch each, its image and what becomes of it; then some of sketches that are fed lists and sets.
 pub fn replay(n: u64, seed: u64) -> String {
     let random = &mut Random::new(seed);
     let mut list = List(String::new());
@@ -86,7 +100,28 @@ pub fn replay(n: u64, seed: u64) -> String {
         refused(random, &mut list, &state.image);
         merged(random, &mut list, source, lg_k);
     }
+    (0..n / 5).for_each(|i| fed_images(random, &mut list, [4, 4, 6, 8][i as usize % 4]));
     list.0
+}
+
+/// A sketch that has something already, and up to three lists or sets in turn.
+fn fed_images(random: &mut Random, list: &mut List, kind: u8) {
+    let lg_k = 4 + random.below(3) as u8;
+    let before = some(random, lg_k);
+    let (mut recipe, _) = list.fed(empty(kind, lg_k), vec![before]);
+    for _ in 0..1 + random.below(3) {
+        let few = written(random, lg_k);
+        list.bytes('L', &few.image);
+        recipe.feed(few.words);
+        list.shown(run(&recipe), 'I');
+    }
+}
+
+/// A list or a set for a sketch of this lg_k, as fine or finer, of coupons as it may be fed in batches.
+fn written(random: &mut Random, lg_k: u8) -> Few {
+    let finer = lg_k + random.below((LARGEST - lg_k) as u32 + 1) as u8;
+    let coupons = batches(random, lg_k).concat();
+    few(random, finer, coupons)
 }
 
 /// At most 20 coupons, by any plan.
@@ -182,13 +217,15 @@ fn merged(random: &mut Random, list: &mut List, source: Recipe, lg_k: u8) {
 }
 
 /// The answers about exception words, each with its place, and images beside them that open: the
-/// cases worked out by hand, then N histories whose image, in both forms, is damaged at random.
+/// cases worked out by hand, then N histories whose image, in both forms, is damaged at random. Then
+/// the answers to lists and sets, by a sketch that they are fed to: worked out by hand, and N that
+/// are damaged at random.
 pub fn places(n: u64, seed: u64) -> String {
     let random = &mut Random::new(seed);
     let mut list = List(String::new());
     for (what, image, wanted) in aux_cases::small() {
         assert_eq!(said(&image), wanted, "{what}");
-        list.answer(&image, wanted);
+        list.answer('A', &image, wanted);
     }
     for i in 0..n {
         let lg_k = if i % 10 == 0 { LARGEST } else { 4 + random.below(4) as u8 };
@@ -201,9 +238,30 @@ pub fn places(n: u64, seed: u64) -> String {
                 let image = damage::exceptions(random, &form);
                 let answer = said(&image);
                 if answer.0 == 0 || answer.0 > 20 {
-                    list.answer(&image, answer);
+                    list.answer('A', &image, answer);
                 }
             }
+        }
+    }
+    let mut at_hand = None;
+    for (what, image, lg_k, wanted) in list_cases::cases() {
+        assert_eq!(lists::said(&image, lg_k), wanted, "{what}");
+        if lg_k > LARGEST || image.len() > LONGEST - 5 {
+            continue;
+        }
+        if at_hand.replace(lg_k) != Some(lg_k) {
+            list.made(random, 4, lg_k);
+        }
+        list.answer('B', &image, wanted);
+    }
+    for i in 0..n {
+        let lg_k = 5 + random.below(4) as u8;
+        list.made(random, [4, 6, 8][i as usize % 3], lg_k);
+        let coarser = lg_k - random.below(2) as u8;
+        let few = written(random, coarser);
+        for _ in 0..4 {
+            let image = damage::coupons(random, &few.image);
+            list.answer('B', &image, lists::said(&image, lg_k));
         }
     }
     list.0
@@ -229,6 +287,10 @@ pub fn wrong(seed: u64) -> String {
     answers_changed(&mut list, 22);
     answers_changed(&mut list, 0);
     list.0 += UNREAD;
+    // Of a sketch that is fed images, while the other waits aside.
+    list.bytes('P', &[]);
+    images_changed(random, &mut list);
+    list.bytes('P', &[]);
     list.shown(Answer::Ok(state), 'J');
     // The last line is cut.
     list.0.pop();
@@ -239,15 +301,44 @@ pub fn wrong(seed: u64) -> String {
 /// bytes where there are none; no such letter; nothing; half a byte; no digit; a space.
 const UNREAD: &str = "S0504\nS0403\nS04\nF040000\nM\nM00\nP00\nQ00\nr00\n\nR0\nR0G\nR 00\n";
 
-/// The first case with this number: the right line, its number and each byte of its place changed,
-/// and what is too short to have them.
 fn answers_changed(list: &mut List, number: u8) {
     let cases = aux_cases::small();
-    let (_, image, (_, place)) = cases.iter().find(|case| case.2.0 == number).unwrap();
-    list.answer(image, (number, *place));
-    list.answer(image, (number ^ 1, *place));
-    (0..4).for_each(|byte| list.answer(image, (number, place ^ 1 << (8 * byte))));
-    list.bytes('A', &[number, 0, 0, 0]);
+    let (_, image, answer) = cases.iter().find(|case| case.2.0 == number).unwrap();
+    answer_changed(list, 'A', image, *answer);
+}
+
+/// The right line, its number and each byte of its place changed, and what is too short to have them.
+fn answer_changed(list: &mut List, letter: char, image: &[u8], (number, place): (u8, u32)) {
+    list.answer(letter, image, (number, place));
+    list.answer(letter, image, (number ^ 1, place));
+    (0..4).for_each(|byte| list.answer(letter, image, (number, place ^ 1 << (8 * byte))));
+    list.bytes(letter, &[number, 0, 0, 0]);
+}
+
+/// A set that is fed, and answers after it that are changed; images that are refused, said to be fed; the registers of another set.
+fn images_changed(random: &mut Random, list: &mut List) {
+    let mut recipe = empty(4, 4);
+    list.start(&recipe);
+    let words = climb(random, 4, 1).concat();
+    let image = lists::laid_out(lists::Layout::Set, 4, 4, &words);
+    list.bytes('L', &image);
+    recipe.feed(words);
+    let state = list.shown(run(&recipe), 'I');
+    each_changed(list, 'R', &state.registers);
+    let cases = list_cases::cases();
+    for answer in [(26, 0), (27, 1), (7, 0), (5, 0)] {
+        let (_, image, lg_k, _) = cases.iter().find(|case| case.3 == answer).unwrap();
+        list.start(&empty(4, *lg_k));
+        list.bytes('L', image);
+        answer_changed(list, 'B', image, answer);
+    }
+    list.start(&empty(4, 4));
+    answer_changed(list, 'B', &image, (0, 0));
+    list.bytes('L', &image[..image.len() - 1]);
+    let mut other = image;
+    other[12] ^= 1;
+    list.bytes('L', &other);
+    list.bytes('R', &state.registers);
 }
 
 /// The right line, each byte of it changed, one byte less, one more.

@@ -35,6 +35,15 @@ pub fn rusts(kind: Kind, lg_k: u8, coupons: &[u32]) -> HllSketch {
     sketch
 }
 
+/// The Rust's own way to registers: as a list, then as a set of coupons, which have a value.
+pub fn by_new(kind: Kind, lg_k: u8, coupons: &[u32]) -> HllSketch {
+    let mut sketch = HllSketch::new(lg_k, hll_type(kind)).unwrap();
+    for coupon in coupons.iter().filter(|coupon| **coupon >> 26 != 0) {
+        sketch.update_with_coupon(Door::coupon(*coupon));
+    }
+    sketch
+}
+
 pub fn hll_type(kind: Kind) -> HllType {
     match kind {
         Kind::Four => HllType::Hll4,

@@ -1,19 +1,10 @@
 //! The Rust's images, read by us.
 
-use exchange::{KINDS, cases, hll_type, more, ours, rusts, same, same_image};
+use exchange::{KINDS, by_new, cases, more, ours, rusts, same, same_image};
 use lintelpear::{Kind, Refusal, Sketch};
 use oracle::Door;
 use oracle::examples::{Random, listed, spread};
 use oracle::hll::HllSketch;
-
-/// The Rust's own way to registers: as a list, then as a set of coupons, which have a value.
-fn by_new(kind: Kind, lg_k: u8, coupons: &[u32]) -> HllSketch {
-    let mut sketch = HllSketch::new(lg_k, hll_type(kind)).unwrap();
-    for coupon in coupons.iter().filter(|coupon| **coupon >> 26 != 0) {
-        sketch.update_with_coupon(Door::coupon(*coupon));
-    }
-    sketch
-}
 
 #[test]
 fn read_by_us_and_fed_on() {
@@ -65,6 +56,7 @@ fn merged() {
     });
 }
 
+/// Opening reads registers alone.
 #[test]
 fn lists_are_refused() {
     for kind in KINDS {

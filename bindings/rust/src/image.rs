@@ -27,8 +27,8 @@ impl Sketch {
     }
 
     /// The sketch of an image of registers. Ignored are bytes behind it, and in it bytes 8 to 31: the sums, which are worked out anew, and
-    /// an estimate, which is not kept. The lists and sets that DataSketches writes while there are few coupons are refused, with
-    /// [`Refusal::Header`].
+    /// an estimate, which is not kept. The lists and sets that DataSketches writes while there are few coupons are refused, as any other
+    /// bytes are; [`feed_image`](Sketch::feed_image) takes them.
     ///
     /// Any bytes may be handed in. The answer is the first of these that applies, as the table of refusals has them: [`Refusal::Short`]
     /// for under 40 bytes, [`Header`](Refusal::Header), [`Mode`](Refusal::Mode), [`LgK`](Refusal::LgK), [`Counts`](Refusal::Counts),

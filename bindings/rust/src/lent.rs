@@ -1,6 +1,6 @@
 //! The calls over memory that the caller lends. Each one answers for every content of what it is lent, so a reference is all that it asks.
-//! What is not in good order it refuses, and leaves what it was lent as it was, scratch excepted; only feed at NO_ROOM has taken the coupons
-//! that it counts.
+//! What is not in good order it refuses, and leaves what it was lent as it was, scratch excepted; only feed and feed_image at NO_ROOM have
+//! taken the coupons that they count.
 //!
 //! Register bytes: k/2, 3k/4+1 or k for kinds 4, 6, 8, where k = 2^lg_k. Only kind 4 uses the exception area, of any number of words (2k are
 //! always enough), and scratch, at least as many. A coupon has its value in the upper 6 bits and its slot in the lower 26.
@@ -8,7 +8,7 @@
 use crate::raw;
 use crate::refusal::{Refusal, answer, answer_at};
 
-/// What feed gives back: how many coupons were taken, and why not all of them.
+/// What feed and feed_image give back: how many coupons were taken, and why not all of them.
 #[derive(Clone, Copy, Debug, PartialEq, Eq)]
 pub struct Fed {
     pub taken: usize,
@@ -80,6 +80,33 @@ impl Record {
             )
         };
         Fed { taken, answer: answer(number) }
+    }
+
+    /// Takes the coupons of a compact list or set as feed does, from the image's own bytes. Every word is looked at before any is fed.
+    pub fn feed_image(
+        &mut self,
+        regs: &mut [u8],
+        aux: &mut [u32],
+        scratch: &mut [u32],
+        image: &[u8],
+    ) -> Fed {
+        let (mut taken, mut place) = (0, 0);
+        let number = unsafe {
+            raw::lp_feed_image(
+                &mut self.0,
+                regs.as_mut_ptr(),
+                regs.len(),
+                aux.as_mut_ptr(),
+                aux.len(),
+                scratch.as_mut_ptr(),
+                scratch.len(),
+                image.as_ptr(),
+                image.len(),
+                &mut taken,
+                &mut place,
+            )
+        };
+        Fed { taken, answer: answer_at(number, place) }
     }
 
     /// The k registers, a byte each.

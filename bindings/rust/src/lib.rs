@@ -1,7 +1,7 @@
 //! HyperLogLog registers. A [`Sketch`] owns its memory; [`lent`] has the calls below it, over memory that the caller lends.
 //!
-//! A sketch keeps k = 2^lg_k registers of 0 to 63 in one of three [`Kind`]s, and is fed [`Coupon`]s, a slot and a value each. Its images
-//! have the layout of Apache DataSketches. Hashing items into coupons and estimating how many there were is no part of this crate.
+//! A sketch keeps k = 2^lg_k registers of 0 to 63 in one of three [`Kind`]s, and is fed [`Coupon`]s, a slot and a value each, also out of a
+//! list or set. Images have the layout of Apache DataSketches. Hashing items into coupons and estimating how many there were is no part of this crate.
 //!
 //! ```
 //! # fn main() -> Result<(), lintelpear::Refusal> {
@@ -30,6 +30,7 @@ mod coupon;
 mod image;
 mod kind;
 pub mod lent;
+mod list;
 mod raw;
 mod refusal;
 mod sketch;

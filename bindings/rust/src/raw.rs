@@ -24,6 +24,19 @@ unsafe extern "C" {
         coupons_len: usize,
         taken: *mut usize,
     ) -> u32;
+    pub fn lp_feed_image(
+        record: *mut Words,
+        regs: *mut u8,
+        regs_len: usize,
+        aux: *mut u32,
+        aux_len: usize,
+        scratch: *mut u32,
+        scratch_len: usize,
+        image: *const u8,
+        image_len: usize,
+        taken: *mut usize,
+        place: *mut u32,
+    ) -> u32;
     pub fn lp_unpack(
         record: *const Words,
         regs: *const u8,

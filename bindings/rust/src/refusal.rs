@@ -18,15 +18,15 @@ pub enum Refusal {
     Size,
     /// `DAMAGED`: a lent sketch that is not in good order.
     Damaged,
-    /// `FINER`: a merge target whose lg_k is larger than the source's.
+    /// `FINER`: a sketch whose lg_k is larger than that of what is to be merged into it or fed to it.
     Finer,
     /// `NO_ROOM`: a lent exception area that is too small.
     NoRoom,
     /// `SHORT`: an image of fewer bytes than its header has or asks for.
     Short,
-    /// `HEADER`: an image whose first bytes are not 10, 1, 7.
+    /// `HEADER`: an image whose first bytes are not 10, 1, 7; of a list or set, 2 or 3, 1, 7.
     Header,
-    /// `MODE`: an image whose mode byte is not 2, 6 or 10.
+    /// `MODE`: an image whose mode byte is not 2, 6 or 10; of a list or set, does not end in the bits 00 or 01.
     Mode,
     /// `COUNTS`: an image whose cur_min or one of whose two counts cannot be.
     Counts,
@@ -50,11 +50,15 @@ pub enum Refusal {
     AuxCount,
     /// `AUX_MATCH`: an image that lists other slots than those whose nibble is 15; the smallest slot that is one and not the other.
     AuxMatch(u32),
+    /// `FORM`: a list or set without the compact flag.
+    Form,
+    /// `LISTEMPTY`: a list or set with a word that is zero; the first one's position, from 0.
+    ListEmpty(u32),
 }
 
 impl Refusal {
     /// Each of them, those that carry something with this.
-    fn all(place: u32) -> [Refusal; 20] {
+    fn all(place: u32) -> [Refusal; 22] {
         [
             Refusal::Kind,
             Refusal::LgK,
@@ -76,10 +80,12 @@ impl Refusal {
             Refusal::AuxLow(place),
             Refusal::AuxCount,
             Refusal::AuxMatch(place),
+            Refusal::Form,
+            Refusal::ListEmpty(place),
         ]
     }
 
-    /// The number in the table of refusals: 1 to 12, 14 to 16, 21 to 25.
+    /// The number in the table of refusals: 1 to 12, 14 to 16, 21 to 27.
     pub fn number(self) -> u32 {
         match self {
             Refusal::Kind => 1,
@@ -102,13 +108,18 @@ impl Refusal {
             Refusal::AuxLow(_) => 23,
             Refusal::AuxCount => 24,
             Refusal::AuxMatch(_) => 25,
+            Refusal::Form => 26,
+            Refusal::ListEmpty(_) => 27,
         }
     }
 
     /// What the answer carries: a word's position, or a slot. 0 where it carries nothing.
     pub fn place(self) -> u32 {
         match self {
-            Refusal::AuxEmpty(word) | Refusal::AuxTwice(word) | Refusal::AuxLow(word) => word,
+            Refusal::AuxEmpty(word)
+            | Refusal::AuxTwice(word)
+            | Refusal::AuxLow(word)
+            | Refusal::ListEmpty(word) => word,
             Refusal::AuxMatch(slot) => slot,
             _ => 0,
         }
@@ -122,11 +133,13 @@ impl fmt::Display for Refusal {
             Refusal::LgK => "lg_k is not within 4 to 21",
             Refusal::Size => "a buffer does not have the length that the sketch asks for",
             Refusal::Damaged => "the sketch is not in good order",
-            Refusal::Finer => "the merge target has a larger lg_k than its source",
+            Refusal::Finer => "the sketch has a larger lg_k than what is merged into it or fed to it",
             Refusal::NoRoom => "the exception area is too small for the exceptions",
             Refusal::Short => "the image is cut short",
-            Refusal::Header => "the image does not begin with the bytes 10, 1, 7",
-            Refusal::Mode => "the image's mode byte is not 2, 6 or 10",
+            Refusal::Header => {
+                "the image does not begin with 10, 1, 7, or where a list or set is read with 2 or 3, 1, 7"
+            }
+            Refusal::Mode => "the image's mode byte does not go with its first byte",
             Refusal::Counts => "the image's cur_min or one of its counts is out of range",
             Refusal::LgArr => "the image's lg_arr is over 22",
             Refusal::Value => "the image has a register over 63",
@@ -138,11 +151,14 @@ impl fmt::Display for Refusal {
             Refusal::AuxLow(_) => "an exception word of the image has a value below cur_min + 15",
             Refusal::AuxCount => "the image's exception words are more or fewer than its count",
             Refusal::AuxMatch(_) => "the image's exception words are not those of its registers",
+            Refusal::Form => "the list or set is not compact",
+            Refusal::ListEmpty(_) => "a word of the list or set is zero",
         })?;
         match self {
-            Refusal::AuxEmpty(word) | Refusal::AuxTwice(word) | Refusal::AuxLow(word) => {
-                write!(f, ": word {word}, from 0")
-            }
+            Refusal::AuxEmpty(word)
+            | Refusal::AuxTwice(word)
+            | Refusal::AuxLow(word)
+            | Refusal::ListEmpty(word) => write!(f, ": word {word}, from 0"),
             Refusal::AuxMatch(slot) => write!(f, ": slot {slot}"),
             _ => Ok(()),
         }
@@ -172,10 +188,10 @@ mod tests {
     #[test]
     fn each_number_and_place_is_its_own() {
         assert_eq!(answer_at(0, 7), Ok(()));
-        for number in (1..=12).chain(14..=16).chain(21..=25) {
+        for number in (1..=12).chain(14..=16).chain(21..=27) {
             let refusal = answer_at(number, 7).unwrap_err();
             assert_eq!(refusal.number(), number);
-            assert_eq!(refusal.place(), if [21, 22, 23, 25].contains(&number) { 7 } else { 0 });
+            assert_eq!(refusal.place(), if [21, 22, 23, 25, 27].contains(&number) { 7 } else { 0 });
         }
     }
 }

@@ -1,4 +1,4 @@
-//! A sketch that owns its memory: fed, merged and read. Its images are in image.rs.
+//! A sketch that owns its memory: fed, merged and read. Its images are in image.rs, the lists and sets that it is fed in list.rs.
 
 use std::borrow::Cow;
 use std::mem;
@@ -61,7 +61,7 @@ impl Sketch {
         self.record.0[1] as u8
     }
 
-    fn k(&self) -> usize {
+    pub(crate) fn k(&self) -> usize {
         1 << self.lg_k()
     }
 

@@ -9,7 +9,7 @@ use Rattle.model.specs.Packed.{Bytes}
 use Rattle.model.specs.Table.{baseFor}
 use Rattle.model.specs.Steps.{Step, went, stopped, Ran, ran}
 use Rattle.model.specs.Four.{State, step4}
-use Rattle.model.specs.Calls.{Out, out, keptOut, stateOf, stepOf}
+use Rattle.model.specs.Calls.{Out, out, keptOut, stateOf, stepOf, batchOf}
 use Rattle.model.specs.declared.Sketch.{Sketch}
 use Rattle.model.proofs.table.FirstLaws.{true-not-false}
 use Rattle.model.proofs.calls.Steps.{plus, ran-begin, ran-went, ran-stop, ran-end}
@@ -29,8 +29,8 @@ stepped-stopped (went b) took s regs aux s′ regs′ aux′ h e = absurd (true-
 stepped-stopped stopped took s regs aux s′ regs′ aux′ h e = (refl, h .1)
 
 -- what the whole batch leaves, in an area that is as long as aux
-abbrev fedOut : ℕ → List ℕ → Ran State → Out
-fedOut lgk aux q = keptOut (q .no) 4 lgk (q .count) (q .state) aux
+abbrev leaves : ℕ → List ℕ → Ran State → Out
+leaves lgk aux q = keptOut (q .no) 4 lgk (q .count) (q .state) aux
 
 pub record Feeding (lgk : ℕ) (a₀ : State) (aux₀ cs : List ℕ) (i : ℕ) (s : Sketch) (regs aux : List ℕ) : Type 0 where
   pub upto : i ≤ length cs
@@ -76,12 +76,17 @@ module _ {lgk : ℕ} {a₀ : State} {aux₀ cs : List ℕ} {i : ℕ} {s : Sketch
           going = f .going ∙ ran-went State (stepOf 4 lgk (length aux₀)) (f .state) (q .0) cs i l (sym step-is ∙ q .1);
         }
 
-    pub feeding-stop : took ≡ false → out 6 0 s′ i regs′ aux′ ≡ fedOut lgk aux₀ (ran (stepOf 4 lgk (length aux₀)) a₀ cs)
+    pub feeding-stop : took ≡ false → out 6 0 s′ i regs′ aux′ ≡ leaves lgk aux₀ (ran (stepOf 4 lgk (length aux₀)) a₀ cs)
     feeding-stop e =
         let q = stepped-stopped (step4 (baseFor (s .«lg_k»)) (length aux) (stateOf s regs aux) (getD cs i 0)) took s regs aux s′ regs′ aux′ st e in
         ap (λ (x : Sketch). out 6 0 x i regs′ aux′) (q .1 .sketch-is) ∙ ap₂ (λ (x y : List ℕ). out 6 0 s i x y) (q .1 .regs-are) (q .1 .aux-is)
         ∙ rests-kept (f .rests) (f .bytes) 6 i aux₀ (f .wide)
-        ∙ ap (fedOut lgk aux₀) (sym (f .going ∙ ran-stop State (stepOf 4 lgk (length aux₀)) (f .state) cs i l (sym step-is ∙ q .0)))
+        ∙ ap (leaves lgk aux₀) (sym (f .going ∙ ran-stop State (stepOf 4 lgk (length aux₀)) (f .state) cs i l (sym step-is ∙ q .0)))
 
-  pub feeding-end : i ≡ length cs → out 0 0 s i regs aux ≡ fedOut lgk aux₀ (ran (stepOf 4 lgk (length aux₀)) a₀ cs)
-  feeding-end e = rests-kept (f .rests) (f .bytes) 0 i aux₀ (f .wide) ∙ ap (fedOut lgk aux₀) (sym (f .going ∙ ran-end State (stepOf 4 lgk (length aux₀)) (f .state) cs i e))
+  pub feeding-end : i ≡ length cs → out 0 0 s i regs aux ≡ leaves lgk aux₀ (ran (stepOf 4 lgk (length aux₀)) a₀ cs)
+  feeding-end e = rests-kept (f .rests) (f .bytes) 0 i aux₀ (f .wide) ∙ ap (leaves lgk aux₀) (sym (f .going ∙ ran-end State (stepOf 4 lgk (length aux₀)) (f .state) cs i e))
+
+-- which is the book's
+pub feeding-is : (s : Sketch) (regs aux cs : List ℕ) → s .kind ≡ 4 → leaves (s .«lg_k») aux (ran (stepOf 4 (s .«lg_k») (length aux)) (stateOf s regs aux) cs) ≡ batchOf s regs aux cs
+unfolding batchOf
+feeding-is s regs aux cs e = ap (λ (kind : ℕ). let r = ran (stepOf kind (s .«lg_k») (length aux)) (stateOf s regs aux) cs in keptOut (r .no) kind (s .«lg_k») (r .count) (r .state) aux) (sym e)

@@ -1,5 +1,7 @@
 // Kind 4's feeding, after array4.rs: a register is a nibble above cur_min, and one that a nibble can't hold stands in the exception table.
 use aux_map::Got;
+use model::Answer;
+use model::Fed;
 use model::Sketch;
 use packed::eight::one_if;
 use packed::four::get_raw;
@@ -10,19 +12,15 @@ ghost use lib.Dec.{eqb, ltb};
 ghost use lib.ListN.{length};
 ghost use Rattle.model.specs.Pick.{pick};
 ghost use Rattle.model.specs.Table.{baseFor};
-ghost use Rattle.model.specs.Steps.{ran};
 ghost use Rattle.model.specs.Four.{valueAt, step4};
 ghost use Rattle.model.specs.Sketch.{tableIn};
-ghost use Rattle.model.specs.Calls.{out, keptOut, stateOf, stepOf};
+ghost use Rattle.model.specs.Calls.{fedOut, stateOf, batchOf};
 ghost use Rattle.array4.specs.Held.{Held, Rests};
 ghost use Rattle.array4.specs.Rise.{loweredByte, Above, Lowerable, Lowered, Freeable, Freed, Risable, Rose, settledOf};
 ghost use Rattle.array4.specs.Update.{Readable, Placeable, Placed, putOf, Resting, Stepped, Feedable};
 
 // The nibble of an exception: its value is in the table.
 const AUX_TOKEN: u8 = 15;
-
-// The number of the answer NO_ROOM.
-const NO_ROOM: u8 = 6;
 
 // The register that a nibble means. A nibble of 15 has a word in the table; 0 is the value of the empty one.
 fn old_value(s: Sketch, aux: &[u32], slot: u32, raw: u8) -> u8
@@ -251,12 +249,6 @@ fn settle(s: Sketch, regs: &mut [u8], aux: &mut [u32], scratch: &mut [u32]) -> S
     risen
 }
 
-pub struct Fed4 {
-    pub no: u8,
-    pub sketch: Sketch,
-    pub taken: usize,
-}
-
 // The coupons in order, up to the first whose exception finds no room.
 pub fn feed(
     s: Sketch,
@@ -264,9 +256,9 @@ pub fn feed(
     aux: &mut [u32],
     scratch: &mut [u32],
     coupons: &[u32],
-) -> Fed4
+) -> Fed
     requires { ⌜ Feedable s (now regs) (now aux) (now scratch) ⌝ }
-    ensures { λ r. ⌜ (let q = ran (stepOf 4 (s .«lg_k») (length (now (aux .entry)))) (stateOf s (now (regs .entry)) (now (aux .entry))) (now (coupons .entry)) in out (r .no) 0 (r .sketch) (r .taken) (now (regs .exit)) (now (aux .exit)) ≡ keptOut (q .no) 4 (s .«lg_k») (q .count) (q .state) (now (aux .entry))) ⌝ }
+    ensures { λ r. ⌜ fedOut r (now (regs .exit)) (now (aux .exit)) ≡ batchOf s (now (regs .entry)) (now (aux .entry)) (now (coupons .entry)) ⌝ }
 {
     let mut fed = s;
     let mut i = 0;
@@ -276,8 +268,8 @@ pub fn feed(
         let u = update(fed, regs, aux, scratch, c);
         let sketch = u.sketch;
         if !u.took {
-            return Fed4 {
-                no: NO_ROOM,
+            return Fed {
+                answer: Answer::NoRoom,
                 sketch,
                 taken: i,
             };
@@ -285,8 +277,8 @@ pub fn feed(
         fed = sketch;
         i = next;
     }
-    Fed4 {
-        no: 0,
+    Fed {
+        answer: Answer::Ok,
         sketch: fed,
         taken: i,
     }

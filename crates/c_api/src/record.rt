@@ -1,8 +1,8 @@
-// A sketch's record as the five words that C holds, and an answer as its number.
+// A sketch's record as the five words that C holds, and an answer as its number and its place.
 use model::Answer;
 use model::Sketch;
 ghost use mathlib.Core.Path.{_≡_};
-ghost use Rattle.model.specs.Answers.{numberOf};
+ghost use Rattle.model.specs.Answers.{numberOf, said, saidOf};
 ghost use Rattle.c_api.specs.Words.{narrowed, recordIn, Carried, Put};
 
 // 255 where a word is no byte: neither a kind nor an lg_k nor a cur_min, so the call refuses it.
@@ -56,6 +56,14 @@ pub fn number(a: Answer) -> u32
     ensures { λ r. ⌜ r ≡ numberOf a ⌝ }
 {
     wide(model::number(a))
+}
+
+// The same, with the place handed out.
+pub fn told(a: Answer, place: &mut u32) -> u32
+    ensures { λ r. ⌜ said r (now (place .exit)) ≡ saidOf a ⌝ }
+{
+    *place = model::place(a);
+    number(a)
 }
 
 fn wide(byte: u8) -> u32

@@ -51,8 +51,5 @@ module _ {l : List ℕ} {h : Header} (s : Sound l h) where
   pub words-here : wordsIn h < 2 ^ 32
   words-here = words-small (s .formed) (counted .counts) lg-arr-here
 
-  pub few-here : h .«aux_count» ≤ 2 ^ h .«lg_k»
-  few-here = counts-few (s .formed) (s .counts)
-
   pub payload-here : 40 + bytesOf (h .kind) (h .«lg_k») + 4 * wordsIn h ≤ length l
   payload-here = subst (λ (n : ℕ). n ≤ length l) (sym (end-is (s .formed))) (counted .payload)

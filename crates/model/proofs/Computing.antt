@@ -10,9 +10,10 @@ use Rattle.model.specs.Four.{storedAt, valuesFrom, registers4, risen, cl
 use Rattle.model.specs.Sketch.{isKind, bytesOf, lowOf, recordOf, stored, areaOf, cells, tableIn, registers}
 use Rattle.model.specs.Check.{countsFit, valuesFit, spareFits, tallyFits, wordFits, tableFits, goodOf, lgkNo, sizeNo, shapeNo, scratchFits, checkNo}
 use Rattle.model.specs.Sums.{share, scaled, ratio}
-use Rattle.model.specs.Calls.{keptOut, startOf, stateOf, stepOf, feedOf, eightNo, mergeNo, mergeOf, sumsOf}
+use Rattle.model.specs.Calls.{keptOut, startOf, stateOf, stepOf, batchOf, feedOf, eightNo, mergeNo, mergeOf, sumsOf}
 use Rattle.model.specs.Faults.{lists, faultAt, auxFault}
 use Rattle.model.specs.Image.{header, imageOf, imageIn, writeNo, writeOf, kindOf, sketchIn, regsIn, compactIn, wordCount, entriesIn, auxIn, placeIn, headerNo, formNo, memoryNo, lgArrFits, countsNo, roomNo, bodyNo, openNo, openOf}
+use Rattle.model.specs.Lists.{couponCount, emptyIn, preambleNo, couponsNo, feedImageNo, emptyPlace, feedImageOf}
 
 -- its value says nothing
 unfoldable pub book : ℕ
@@ -22,7 +23,8 @@ unfolding all some firstOf first raise poured least countOf above number digits 
     isKind bytesOf lowOf recordOf stored areaOf cells tableIn registers
     countsFit valuesFit spareFits tallyFits wordFits tableFits goodOf lgkNo sizeNo shapeNo scratchFits checkNo
     share scaled ratio round toBits
-    keptOut startOf stateOf stepOf feedOf eightNo mergeNo mergeOf sumsOf
+    keptOut startOf stateOf stepOf batchOf feedOf eightNo mergeNo mergeOf sumsOf
     lists faultAt auxFault
     header imageOf imageIn writeNo writeOf kindOf sketchIn regsIn compactIn wordCount entriesIn auxIn placeIn headerNo formNo memoryNo lgArrFits countsNo roomNo bodyNo openNo openOf
+    couponCount emptyIn preambleNo couponsNo feedImageNo emptyPlace feedImageOf
 book = 0

@@ -4,6 +4,7 @@ pub mod Steps
 pub mod Stopping
 pub mod Starting
 pub mod Has
+pub mod Batches
 pub mod Picked
 pub mod Refused
 pub mod Standing

@@ -16,3 +16,7 @@ pub mod Room
 pub mod Sending
 pub mod OpensAs
 pub mod OpensAlike
+pub mod Lists
+pub mod ListRungs
+pub mod CouponLines
+pub mod CouponsRead

@@ -4,7 +4,7 @@ use mathlib.Core.Bool.{Bool}
 use lib.Dec.{leb}
 use Rattle.model.specs.Pick.{both}
 use Rattle.model.specs.declared.Answer.{Answer}
-use Rattle.model.specs.declared.Answer.the-variants.{Ok, Kind, LgK, Size, Damaged, Finer, NoRoom, Short, Header, Mode, Counts, LgArr, Value, Spare, Tally, Out, AuxEmpty, AuxTwice, AuxLow, AuxCount, AuxMatch}
+use Rattle.model.specs.declared.Answer.the-variants.{Ok, Kind, LgK, Size, Damaged, Finer, NoRoom, Short, Header, Mode, Counts, LgArr, Value, Spare, Tally, Out, AuxEmpty, AuxTwice, AuxLow, AuxCount, AuxMatch, Form, ListEmpty}
 
 -- an answer's number in the table; 13 is not used
 abbrev pub numberOf : Answer → ℕ
@@ -29,6 +29,8 @@ numberOf (AuxTwice i) = 22
 numberOf (AuxLow i) = 23
 numberOf AuxCount = 24
 numberOf (AuxMatch s) = 25
+numberOf Form = 26
+numberOf (ListEmpty i) = 27
 
 -- its place: a word's position from 0, for AUX_MATCH a slot; 0 where an answer has none
 abbrev pub placeOf : Answer → ℕ
@@ -53,6 +55,8 @@ placeOf (AuxTwice i) = i
 placeOf (AuxLow i) = i
 placeOf AuxCount = 0
 placeOf (AuxMatch s) = s
+placeOf Form = 0
+placeOf (ListEmpty i) = i
 
 -- 21 to 25, the numbers of answers about exception words: with them a place is told
 abbrev pub placed : ℕ → Bool

@@ -1,4 +1,4 @@
--- What each call but write and open does, for every input: its answer's number and place, what it returns, and what lent memory then holds.
+-- What each call over a sketch does, for every input: its answer's number and place, what it returns, and what lent memory then holds.
 -- Scratch is left out: it may hold anything.
 use Prim.Native.Nat.{ℕ, _^_}
 use mathlib.Core.Bool.{true}
@@ -58,6 +58,10 @@ nothing = sketchOf 0 0 0 0 0
 abbrev pub refusedMade : Answer → Made
 refusedMade a = record { answer = a; sketch = nothing }
 
+-- and what one gives which feeds: the record that came, and nothing taken
+abbrev pub refusedFed : Answer → Sketch → Fed
+refusedFed a s = record { answer = a; sketch = s; taken = 0 }
+
 -- a sketch of these registers and this table
 unfoldable pub keptOut : ℕ → ℕ → ℕ → ℕ → State → List ℕ → Out
 keptOut n kind lgk count a aux = out n 0 (recordOf kind lgk (a .regs)) count (stored kind lgk (a .regs)) (areaOf kind (a .table) aux)
@@ -76,12 +80,17 @@ stateOf s regs aux = state (registers s regs aux) (tableIn s aux)
 unfoldable pub stepOf : ℕ → ℕ → ℕ → State → ℕ → Step State
 stepOf kind lgk room a c = pick (eqb kind 4) (step4 (baseFor lgk) room a c) (went (state (raise (a .regs) (home (2 ^ lgk) c) (value c)) (a .table)))
 
--- feed: the coupons in order, until one finds no room
+-- coupons into a sketch that has passed its checks: in order, until one finds no room
+unfoldable pub batchOf : Sketch → List ℕ → List ℕ → List ℕ → Out
+batchOf s regs aux coupons =
+    let r = ran (stepOf (s .kind) (s .«lg_k») (length aux)) (stateOf s regs aux) coupons in
+    keptOut (r .no) (s .kind) (s .«lg_k») (r .count) (r .state) aux
+
+-- feed: the checks, then the coupons
 unfoldable pub feedOf : Sketch → List ℕ → List ℕ → List ℕ → List ℕ → Out
 feedOf s regs aux scratch coupons =
     let n = checkNo (scratchFits (s .kind) (length aux) (length scratch)) s regs aux in
-    let r = ran (stepOf (s .kind) (s .«lg_k») (length aux)) (stateOf s regs aux) coupons in
-    pick (eqb n 0) (keptOut (r .no) (s .kind) (s .«lg_k») (r .count) (r .state) aux) (refusedOut n s regs aux)
+    pick (eqb n 0) (batchOf s regs aux coupons) (refusedOut n s regs aux)
 
 -- what unpack gives back: the number, and what the buffer then holds
 pub record Unpacked : Type 0 where

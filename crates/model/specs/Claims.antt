@@ -2,7 +2,7 @@
 use mathlib.Core.Path.{_≡_}
 use mathlib.Core.Logic.{_⊎_}
 use mathlib.Core.Bool.{Bool, true, false}
-use mathlib.Core.List.{List, [], List·Memᴰ}
+use mathlib.Core.List.{List, [], _∷_, _++_, List·Memᴰ}
 use Prim.Native.Nat.{ℕ, min, _+_, _*_, _-_, _/_, _%_, _^_, _<_, _≤_}
 use lib.IntN.{pos}
 use lib.Ieee.{Float, fin}
@@ -10,7 +10,7 @@ use lib.Ieee.Exact.{HasValue}
 use lib.ListN.{length, getD, take}
 use Rattle.model.specs.Coupon.{value, home, isEmpty}
 use Rattle.model.specs.Registers.{fed, joined, countOf}
-use Rattle.model.specs.Packed.{Bytes}
+use Rattle.model.specs.Packed.{Bytes, slotAt, packed}
 use Rattle.model.specs.Table.{baseFor, tableSize, Member, filled}
 use Rattle.model.specs.Four.{NoRoom}
 use Rattle.model.specs.Sketch.{bytesOf, cells, registers, Good}
@@ -18,6 +18,7 @@ use Rattle.model.specs.Sums.{scaled}
 use Rattle.model.specs.Calls.{Out, out, nothing, startOf, feedOf, unpackedTo, unpackOf, viewOf, mergeOf, Summed, summedTo, sumsOf}
 use Rattle.model.specs.Faults.{auxFault}
 use Rattle.model.specs.Image.{imageIn, wrote, writeOf, sketchIn, regsIn, compactIn, wordCount, wordsIn, entriesIn, openOf}
+use Rattle.model.specs.Lists.{couponCount, couponsIn, preambleNo, couponsNo, feedImageOf}
 use Rattle.model.specs.History.{here, Call, run}
 use Rattle.model.specs.Answers.{numberOf, placeOf, Said, said}
 use Rattle.model.specs.declared.Answer.{Answer}
@@ -154,11 +155,26 @@ OpenLines l regs aux scratch =
     (Unless (said 12 0) ((i : ℕ) → i < k → ((s .kind ≡ 4) × (getD ns i 0 ≡ 15) → ⊥) → s .«cur_min» + getD ns i 0 ≤ 63)
     (Only (s .kind ≡ 4) (AuxLines (compactIn l) k (s .«cur_min») (s .«aux_count») (wordsIn l) ns (LastLines l)) (LastLines l))))))))))))
 
--- each refusal exactly when its line of the table says; lent registers are bytes
+-- the lines of a coupon list or set, for a sketch of this lg_k: SHORT, HEADER, SHORT of a set, MODE, LGK, FORM, SHORT, LISTEMPTY at the first zero word, FINER
+abbrev pub CouponLines : ℕ → List ℕ → (Said → Type 0) → Said → Type 0
+CouponLines lgk l next =
+    Unless (said 7 0) (8 ≤ length l)
+    (Unless (said 8 0) (((getD l 0 0 ≡ 2) ⊎ (getD l 0 0 ≡ 3)) × ((getD l 1 0 ≡ 1) × (getD l 2 0 ≡ 7)))
+    (Unless (said 7 0) (getD l 0 0 ≡ 3 → 12 ≤ length l)
+    (Unless (said 9 0) ((getD l 0 0 ≡ 2 → getD l 7 0 % 4 ≡ 0) × (getD l 0 0 ≡ 3 → getD l 7 0 % 4 ≡ 1))
+    (Unless (said 2 0) ((4 ≤ getD l 3 0) × (getD l 3 0 ≤ 21))
+    (Unless (said 26 0) (compactIn l ≡ true)
+    (Unless (said 7 0) ((getD l 0 0 ≡ 2 → 8 + 4 * getD l 6 0 ≤ length l) × (getD l 0 0 ≡ 3 → 12 + 4 * slotAt 32 l 2 ≤ length l))
+    (Wherever 27 (λ i. (i < couponCount l) × ((getD (couponsIn l) i 0 ≡ 0) × ((j : ℕ) → j < i → getD (couponsIn l) j 0 ≡ 0 → ⊥)))
+    (Unless (said 5 0) (lgk ≤ getD l 3 0) next))))))))
+
+-- each refusal exactly when its line of the table says; lent registers are bytes, and so is an image of coupons
 pub record Demand1 : Type 0 where
   pub start-lines : (kind lgk : ℕ) (regs aux : List ℕ) → ShapeLines kind lgk (length regs) Ok (startOf kind lgk regs aux .no)
   pub feed-lines : (s : Sketch) (regs aux scratch cs : List ℕ) → Bytes regs
       → SketchLines (Scratch (s .kind) aux scratch) s regs aux (FeedLine s regs aux cs (feedOf s regs aux scratch cs .count)) (feedOf s regs aux scratch cs .no)
+  pub feed-image-lines : (s : Sketch) (regs aux scratch l : List ℕ) → Bytes regs → Bytes l → let o = feedImageOf s regs aux scratch l in
+      SketchLines (Scratch (s .kind) aux scratch) s regs aux (λ n. CouponLines (s .«lg_k») l (λ a. FeedLine s regs aux (couponsIn l) (o .count) (a .no)) (said n (o .place))) (o .no)
   pub unpack-lines : (s : Sketch) (regs aux buf : List ℕ) → Bytes regs → SketchLines (length buf ≡ 2 ^ s .«lg_k») s regs aux Ok (unpackOf s regs aux buf .no)
   pub view-shows : (s : Sketch) (regs : List ℕ) → s .kind ≡ 8 → Good s regs [] → viewOf s regs ≡ regs
   pub view-hides : (s : Sketch) (regs : List ℕ) → Bytes regs → ((s .kind ≡ 8) × Good s regs [] → ⊥) → viewOf s regs ≡ []
@@ -170,6 +186,7 @@ pub record Demand1 : Type 0 where
   pub open-lines : (l regs aux scratch : List ℕ) → let o = openOf l regs aux scratch in OpenLines l regs aux scratch (said (o .no) (o .place))
   pub start-place : (kind lgk : ℕ) (regs aux : List ℕ) → startOf kind lgk regs aux .place ≡ 0
   pub feed-place : (s : Sketch) (regs aux scratch cs : List ℕ) → feedOf s regs aux scratch cs .place ≡ 0
+  pub feed-image-place : (s : Sketch) (regs aux scratch l : List ℕ) → let o = feedImageOf s regs aux scratch l in (o .no ≡ 27 → ⊥) → o .place ≡ 0
   pub merge-place : (t : Sketch) (tregs : List ℕ) (s : Sketch) (sregs saux : List ℕ) → mergeOf t tregs s sregs saux .place ≡ 0
 
 -- nothing is wrong with exception words exactly where their entries are so, and in the compact form no word is empty
@@ -183,12 +200,13 @@ pub record AuxNone : Type 0 where
 pub record Unchanged : Type 0 where
   pub start-same : (kind lgk : ℕ) (regs aux : List ℕ) → let o = startOf kind lgk regs aux in (o .no ≡ 0 → ⊥) → o ≡ out (o .no) 0 nothing 0 regs aux
   pub feed-same : (s : Sketch) (regs aux scratch cs : List ℕ) → let o = feedOf s regs aux scratch cs in (o .no ≡ 0 → ⊥) → (o .no ≡ 6 → ⊥) → o ≡ out (o .no) 0 s 0 regs aux
+  pub feed-image-same : (s : Sketch) (regs aux scratch l : List ℕ) → let o = feedImageOf s regs aux scratch l in (o .no ≡ 0 → ⊥) → (o .no ≡ 6 → ⊥) → o ≡ out (o .no) (o .place) s 0 regs aux
   pub unpack-same : (s : Sketch) (regs aux buf : List ℕ) → (unpackOf s regs aux buf .no ≡ 0 → ⊥) → unpackOf s regs aux buf .out ≡ buf
   pub merge-same : (t : Sketch) (tregs : List ℕ) (s : Sketch) (sregs saux : List ℕ) → let o = mergeOf t tregs s sregs saux in (o .no ≡ 0 → ⊥) → o ≡ out (o .no) 0 t 0 tregs []
   pub write-same : (s : Sketch) (regs aux buf : List ℕ) → let o = writeOf s regs aux buf in (o .no ≡ 0 → ⊥) → o ≡ wrote (o .no) 0 buf
   pub open-same : (l regs aux scratch : List ℕ) → let o = openOf l regs aux scratch in (o .no ≡ 0 → ⊥) → o ≡ out (o .no) (o .place) nothing 0 regs aux
 
--- two results that meet one call's equation coincide, the answer by name and place: of start, feed, merge and open; of unpack; of view; of sums, whose answer is the number; of write
+-- two results that meet one call's equation coincide, the answer by name and place: of start, feed, feed_image, merge and open; of unpack; of view; of sums, whose answer is the number; of write
 pub record Coincide : Type 0 where
   pub made-same : (o : Out) (a b : Answer) (s t : Sketch) (c d : ℕ) (r q x y : List ℕ) → out (numberOf a) (placeOf a) s c r x ≡ o → out (numberOf b) (placeOf b) t d q y ≡ o
       → (a ≡ b) × ((s ≡ t) × ((c ≡ d) × ((r ≡ q) × (x ≡ y))))
@@ -206,19 +224,27 @@ pub record Keeps (kind lgk : ℕ) (R : List ℕ) (s : Sketch) (regs aux : List �
   pub same-size : s .«lg_k» ≡ lgk
   pub holds : registers s regs aux ≡ R
 
--- feed: fed exactly the coupons that were taken, which are all, or those before NO_ROOM, or none where refused
+-- fed exactly the coupons that were taken, which are all, or those before NO_ROOM, or none where refused
+abbrev pub FedTaken : Sketch → List ℕ → List ℕ → List ℕ → Out → Type 0
+FedTaken s regs aux cs o = Keeps (s .kind) (s .«lg_k») (fed (2 ^ s .«lg_k») (registers s regs aux) (take (o .count) cs)) (o .sketch) (o .regs) (o .aux)
+
+-- feed
 abbrev pub FeedKeeps : Type 0
-FeedKeeps = (s : Sketch) (regs aux scratch cs : List ℕ) → Good s regs aux → let o = feedOf s regs aux scratch cs in
-    Keeps (s .kind) (s .«lg_k») (fed (2 ^ s .«lg_k») (registers s regs aux) (take (o .count) cs)) (o .sketch) (o .regs) (o .aux)
+FeedKeeps = (s : Sketch) (regs aux scratch cs : List ℕ) → Good s regs aux → FedTaken s regs aux cs (feedOf s regs aux scratch cs)
+
+-- feed_image, with the image's words
+abbrev pub FeedImageKeeps : Type 0
+FeedImageKeeps = (s : Sketch) (regs aux scratch l : List ℕ) → Good s regs aux → FedTaken s regs aux (couponsIn l) (feedImageOf s regs aux scratch l)
 
 -- merge: the source's registers joined into those of a kind 8 target that is no finer
 abbrev pub MergeKeeps : Type 0
 MergeKeeps = (t : Sketch) (tregs : List ℕ) (s : Sketch) (sregs saux : List ℕ) → Good t tregs [] → Good s sregs saux → t .kind ≡ 8 → t .«lg_k» ≤ s .«lg_k»
     → let o = mergeOf t tregs s sregs saux in (o .no ≡ 0) × Keeps 8 (t .«lg_k») (joined (2 ^ t .«lg_k») (registers t tregs []) (registers s sregs saux)) (o .sketch) (o .regs) []
 
--- an area of two words a register is room for all coupons
+-- an area of two words a register is room for all coupons, of a batch and of an image
 abbrev pub TwiceIsRoom : Type 0
-TwiceIsRoom = (s : Sketch) (regs aux scratch cs : List ℕ) → Bytes regs → 2 * 2 ^ s .«lg_k» ≤ length aux → feedOf s regs aux scratch cs .no ≡ 6 → ⊥
+TwiceIsRoom = (s : Sketch) (regs aux scratch cs l : List ℕ) → Bytes regs → 2 * 2 ^ s .«lg_k» ≤ length aux
+    → (feedOf s regs aux scratch cs .no ≡ 6 → ⊥) × (feedImageOf s regs aux scratch l .no ≡ 6 → ⊥)
 
 -- sums: each double is exactly a whole number of at most 2 ^ 52 over its power of two; +0 where refused
 pub record ExactSums : Type 0 where
@@ -274,6 +300,18 @@ abbrev pub Reopens : Type 0
 Reopens = (s : Sketch) (regs aux buf regs′ aux′ scratch′ : List ℕ) → Good s regs aux → writeOf s regs aux buf .no ≡ 0
     → length regs′ ≡ length regs → Scratch (s .kind) aux′ scratch′ → (s .kind ≡ 4 → tableSize (baseFor (s .«lg_k»)) (s .«aux_count») ≤ length aux′)
     → Again s regs aux (openOf (writeOf s regs aux buf .out) regs′ aux′ scratch′)
+
+-- ---- coupon lists and sets
+-- the words of a list and of a set as document 02 lays them out, whatever the bytes in between say and whatever stands behind
+pub record CouponsRead : Type 0 where
+  pub list-words : (a b c d : ℕ) (ws rest : List ℕ) → length ws < 2 ^ 8 → ((i : ℕ) → getD ws i 0 < 2 ^ 32)
+      → couponsIn ((2 ∷ 1 ∷ 7 ∷ a ∷ b ∷ c ∷ length ws ∷ d ∷ []) ++ (packed 32 (4 * length ws) ws ++ rest)) ≡ ws
+  pub set-words : (a b c d e : ℕ) (ws rest : List ℕ) → length ws < 2 ^ 32 → ((i : ℕ) → getD ws i 0 < 2 ^ 32)
+      → couponsIn ((3 ∷ 1 ∷ 7 ∷ a ∷ b ∷ c ∷ d ∷ e ∷ []) ++ (packed 32 4 (length ws ∷ []) ++ (packed 32 (4 * length ws) ws ++ rest))) ≡ ws
+
+-- an image in which nothing is wrong is fed as the batch of its words
+abbrev pub FeedsAsBatch : Type 0
+FeedsAsBatch = (s : Sketch) (regs aux scratch l : List ℕ) → preambleNo l ≡ 0 → couponsNo (s .«lg_k») l ≡ 0 → feedImageOf s regs aux scratch l ≡ feedOf s regs aux scratch (couponsIn l)
 
 -- ---- demands 2 and 3: over any history
 -- x is the largest value among the coupons of got for slot i of k, or zero where there is none

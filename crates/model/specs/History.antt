@@ -8,6 +8,7 @@ use lib.ListN.{take}
 use Rattle.model.specs.Pick.{pick}
 use Rattle.model.specs.Calls.{Out, startOf, feedOf, mergeOf}
 use Rattle.model.specs.Image.{writeOf, openOf}
+use Rattle.model.specs.Lists.{couponsIn, feedImageOf}
 use Rattle.model.specs.declared.Sketch.{Sketch}
 
 -- a numbered place: no sketch yet; or a record, its two lent memories, and the coupons that have reached it
@@ -19,11 +20,12 @@ pub data Place : Type 0 where
 abbrev pub World : Type 0
 World = ℕ → Place
 
--- a call on the sketches by their numbers: start is handed memory with any contents, feed scratch and a batch, merge a target and a source;
--- send a source, a target, the buffer that the source is written into, and the target's memory and scratch
+-- a call on the sketches by their numbers: start is handed memory with any contents, feed scratch and a batch, feedImage scratch and an image;
+-- merge a target and a source; send a source, a target, the buffer that the source is written into, and the target's memory and scratch
 pub data Call : Type 0 where
   start : ℕ → ℕ → ℕ → List ℕ → List ℕ → Call
   feed : ℕ → List ℕ → List ℕ → Call
+  feedImage : ℕ → List ℕ → List ℕ → Call
   merge : ℕ → ℕ → Call
   send : ℕ → ℕ → List ℕ → List ℕ → List ℕ → List ℕ → Call
 
@@ -35,11 +37,11 @@ put w n p i = pick (eqb i n) p (w i)
 abbrev pub makes : Out → List ℕ → Place → Place
 makes o got p = pick (eqb (o .no) 0) (here (o .sketch) (o .regs) (o .aux) got) p
 
--- the first `count` coupons of the batch have reached the sketch
-unfoldable pub feeds : Place → List ℕ → List ℕ → Place
-feeds none scratch cs = none
-feeds (here s regs aux got) scratch cs =
-    let o = feedOf s regs aux scratch cs in
+-- a call that feeds a sketch these coupons: the first `count` of them have reached it
+unfoldable pub feeds : (Sketch → List ℕ → List ℕ → Out) → List ℕ → Place → Place
+feeds call cs none = none
+feeds call cs (here s regs aux got) =
+    let o = call s regs aux in
     here (o .sketch) (o .regs) (o .aux) (got ++ take (o .count) cs)
 
 -- all that has reached the source reaches the target, unless the merge is refused
@@ -60,7 +62,8 @@ sends (here s sregs saux got) q buf regs aux scratch =
 -- one call
 unfoldable pub step : World → Call → World
 step w (start n kind lgk regs aux) = put w n (makes (startOf kind lgk regs aux) [] (w n))
-step w (feed n scratch cs) = put w n (feeds (w n) scratch cs)
+step w (feed n scratch cs) = put w n (feeds (λ s regs aux. feedOf s regs aux scratch cs) cs (w n))
+step w (feedImage n scratch l) = put w n (feeds (λ s regs aux. feedImageOf s regs aux scratch l) (couponsIn l) (w n))
 step w (merge n m) = put w n (merges (w n) (w m))
 step w (send n m buf regs aux scratch) = put w m (sends (w n) (w m) buf regs aux scratch)
 

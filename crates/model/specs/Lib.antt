@@ -12,6 +12,7 @@ pub mod Sums
 pub mod Calls
 pub mod Faults
 pub mod Image
+pub mod Lists
 pub mod History
 pub mod Claims
 pub mod Specimens

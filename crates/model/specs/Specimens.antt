@@ -1,26 +1,34 @@
--- Document 01's specimens marked P, two exception tables as the Rust makes them, and document 02's faults of exception words: one table, one claim, proved by computing.
+-- Document 01's specimens marked P, two exception tables as the Rust makes them, and document 02's faults of exception words and images of coupons: one table, one claim, proved by computing.
 use mathlib.Core.Path.{_≡_}
 use mathlib.Core.Bool.{Bool, true, false}
 use mathlib.Core.List.{List, [], _∷_, _++_, map}
-use Prim.Native.Nat.{ℕ, zero, suc}
+use Prim.Native.Nat.{ℕ, zero, suc, _*_}
 use lib.ListN.{length, take, replicate}
 use Rattle.model.specs.Coupon.{word}
+use Rattle.model.specs.Packed.{packed}
 use Rattle.model.specs.Sketch.{bytesOf}
 use Rattle.model.specs.Sums.{scaled}
 use Rattle.model.specs.Calls.{Out, startOf, feedOf, mergeOf}
 use Rattle.model.specs.Faults.{auxFault}
 use Rattle.model.specs.Image.{writeOf}
+use Rattle.model.specs.Lists.{feedImageOf}
 
 -- slots s, s + 1, .., n of them, at v
 unfoldable pub at : ℕ → ℕ → ℕ → List ℕ
 at s zero v = []
 at s (suc n) v = word s v ∷ at (suc s) n v
 
--- a sketch made in memory that held something else, with an area of so many words, and fed
+-- a sketch made in memory that held something else, with an area of so many words
+unfoldable pub begun : ℕ → ℕ → ℕ → Out
+begun kind lgk room = startOf kind lgk (replicate (bytesOf kind lgk) 7) (replicate room 9)
+
+-- and fed
 unfoldable pub fedWith : ℕ → ℕ → ℕ → List ℕ → Out
-fedWith kind lgk room cs =
-    let o = startOf kind lgk (replicate (bytesOf kind lgk) 7) (replicate room 9) in
-    feedOf (o .sketch) (o .regs) (o .aux) (replicate room 5) cs
+fedWith kind lgk room cs = let o = begun kind lgk room in feedOf (o .sketch) (o .regs) (o .aux) (replicate room 5) cs
+
+-- the same, fed an image
+unfoldable pub imageWith : ℕ → ℕ → ℕ → List ℕ → Out
+imageWith kind lgk room l = let o = begun kind lgk room in feedImageOf (o .sketch) (o .regs) (o .aux) (replicate room 5) l
 
 -- its image
 unfoldable pub imageFrom : Out → List ℕ
@@ -33,6 +41,18 @@ recordFrom o = o .sketch .«cur_min» ∷ o .sketch .«num_at_cur_min» ∷ o .s
 -- what is wrong with exception words of a kind 4 image, lg_k 4 and cur_min 0, in which the nibbles of slots 0 and 1 are 15: number and place
 unfoldable pub faultWith : Bool → ℕ → List ℕ → List ℕ
 faultWith compact count ws = let f = auxFault compact 16 0 count ws (15 ∷ 15 ∷ replicate 14 0) in f .no ∷ f .place ∷ []
+
+-- a coupon list with this lg_k, these flags and this mode
+unfoldable pub listWith : ℕ → ℕ → ℕ → List ℕ → List ℕ
+listWith lgk flags mode ws = (2 ∷ 1 ∷ 7 ∷ lgk ∷ 3 ∷ flags ∷ length ws ∷ mode ∷ []) ++ packed 32 (4 * length ws) ws
+
+-- a coupon set
+unfoldable pub setWith : ℕ → ℕ → ℕ → List ℕ → List ℕ
+setWith lgk flags mode ws = (3 ∷ 1 ∷ 7 ∷ lgk ∷ 5 ∷ flags ∷ 9 ∷ mode ∷ []) ++ (packed 32 4 (length ws ∷ []) ++ packed 32 (4 * length ws) ws)
+
+-- number, place, and how many coupons were taken
+unfoldable pub saidFrom : Out → List ℕ
+saidFrom o = o .no ∷ o .place ∷ o .count ∷ []
 
 -- what is asked, and what the documents say
 pub record Specimen : Type 0 where
@@ -83,6 +103,20 @@ table =
     ∷ (faultWith false 1 (word 0 15 ∷ word 1 15 ∷ word 0 15 ∷ []) is (22 ∷ 2 ∷ []))
     ∷ (faultWith false 1 (word 0 15 ∷ 0 ∷ word 1 15 ∷ []) is (24 ∷ 0 ∷ []))
     ∷ (faultWith true 2 (word 0 15 ∷ word 2 15 ∷ []) is (25 ∷ 1 ∷ []))
+    -- request 2: a list; a set with other flags and mode bits and bytes behind; no coupons; the coupons before NO_ROOM; each refusal, FINER last
+    ∷ (imageWith 8 4 0 (listWith 4 8 0 (word 3 5 ∷ word 19 7 ∷ [])) .regs is (replicate 3 0 ++ 7 ∷ replicate 12 0))
+    ∷ (saidFrom (imageWith 6 4 0 (setWith 12 255 253 (word 3 5 ∷ word 3 5 ∷ word 7 0 ∷ []) ++ 1 ∷ 2 ∷ [])) is (0 ∷ 0 ∷ 3 ∷ []))
+    ∷ (saidFrom (imageWith 4 4 8 (listWith 21 8 0 [])) is (0 ∷ 0 ∷ 0 ∷ []))
+    ∷ (saidFrom (imageWith 4 4 16 (setWith 4 8 1 (at 0 13 63))) is (6 ∷ 0 ∷ 12 ∷ []))
+    ∷ (saidFrom (imageWith 8 4 0 (take 7 (listWith 4 8 0 []))) is (7 ∷ 0 ∷ 0 ∷ []))
+    ∷ (saidFrom (imageWith 8 4 0 (10 ∷ 1 ∷ 7 ∷ replicate 37 0)) is (8 ∷ 0 ∷ 0 ∷ []))
+    ∷ (saidFrom (imageWith 8 4 0 (take 11 (setWith 4 8 0 []))) is (7 ∷ 0 ∷ 0 ∷ []))
+    ∷ (saidFrom (imageWith 8 4 0 (setWith 3 8 0 [])) is (9 ∷ 0 ∷ 0 ∷ []))
+    ∷ (saidFrom (imageWith 8 4 0 (listWith 3 0 0 [])) is (2 ∷ 0 ∷ 0 ∷ []))
+    ∷ (saidFrom (imageWith 8 4 0 (take 15 (listWith 4 0 0 (word 3 5 ∷ 0 ∷ [])))) is (26 ∷ 0 ∷ 0 ∷ []))
+    ∷ (saidFrom (imageWith 8 4 0 (take 15 (listWith 4 8 0 (word 3 5 ∷ 0 ∷ [])))) is (7 ∷ 0 ∷ 0 ∷ []))
+    ∷ (saidFrom (imageWith 8 5 0 (setWith 4 8 1 (word 3 5 ∷ 0 ∷ 0 ∷ []))) is (27 ∷ 1 ∷ 0 ∷ []))
+    ∷ (saidFrom (imageWith 8 5 0 (setWith 4 8 1 (word 3 5 ∷ []))) is (5 ∷ 0 ∷ 0 ∷ []))
     ∷ []
 
 -- the claim: each is as it should be

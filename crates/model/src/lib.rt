@@ -12,7 +12,7 @@ pub struct Sketch {
     pub aux_count: u32,
 }
 
-// A case with a place carries it: an exception word's position, or a slot.
+// A case with a place carries it: a word's position, or a slot.
 pub enum Answer {
     Ok,
     Kind,
@@ -35,6 +35,8 @@ pub enum Answer {
     AuxLow(u32),
     AuxCount,
     AuxMatch(u32),
+    Form,
+    ListEmpty(u32),
 }
 
 // What a call gives that makes a sketch or changes one by value.
@@ -92,6 +94,8 @@ pub fn number(a: Answer) -> u8
         Answer::AuxLow(_) => 23,
         Answer::AuxCount => 24,
         Answer::AuxMatch(_) => 25,
+        Answer::Form => 26,
+        Answer::ListEmpty(_) => 27,
     }
 }
 
@@ -121,5 +125,7 @@ pub fn place(a: Answer) -> u32
         Answer::AuxLow(i) => i,
         Answer::AuxCount => 0,
         Answer::AuxMatch(s) => s,
+        Answer::Form => 0,
+        Answer::ListEmpty(i) => i,
     }
 }

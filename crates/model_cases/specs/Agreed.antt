@@ -2,8 +2,8 @@
 use mathlib.Core.Path.{_≡_}
 use mathlib.Core.Bool.{true}
 use Rattle.model_cases.specs.Play.{agreesAll}
-use Rattle.model_cases.specs.Cases.{cases0, cases1, cases2}
+use Rattle.model_cases.specs.Cases.{cases0, cases1, cases2, cases3}
 
--- on every case of the three lists
+-- on every case of the four lists
 abbrev pub Agreed : Type 0
-Agreed = (agreesAll cases0 ≡ true) × ((agreesAll cases1 ≡ true) × (agreesAll cases2 ≡ true))
+Agreed = (agreesAll cases0 ≡ true) × ((agreesAll cases1 ≡ true) × ((agreesAll cases2 ≡ true) × (agreesAll cases3 ≡ true)))

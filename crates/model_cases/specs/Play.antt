@@ -9,6 +9,7 @@ use Rattle.model.specs.Packed.{digits}
 use Rattle.model.specs.Sketch.{bytesOf}
 use Rattle.model.specs.Calls.{Out, mergeOf, feedOf}
 use Rattle.model.specs.Image.{openOf, sketchIn}
+use Rattle.model.specs.Lists.{feedImageOf}
 use Rattle.model.specs.Specimens.{fedWith, imageFrom}
 
 -- a list of words, written as one number
@@ -29,12 +30,14 @@ pub record Source : Type 0 where
 abbrev pub source : ℕ → ℕ → List ℕ → Source
 source kind lgk cs = record { kind = kind; lgk = lgk; coupons = cs }
 
--- the image of a history; of a target into which sources were merged; of an opened image that was fed on; and an image that the Rust refuses too
+-- the image of a history; of a target into which sources were merged; of an opened image that was fed on; an image that the Rust refuses too;
+-- and the image of a history that was fed a list or a set
 pub data Case : Type 0 where
   history : Source → List ℕ → Case
   merged : Source → List Source → List ℕ → Case
   opened : List ℕ → List ℕ → List ℕ → Case
   refused : List ℕ → Case
+  fed : Source → List ℕ → List ℕ → Case
 
 -- two lists are the same
 unfoldable pub same : List ℕ → List ℕ → Bool
@@ -63,12 +66,17 @@ openedOut l cs =
     let o = openOf l (replicate (bytesOf (s .kind) (s .«lg_k»)) 7) (replicate 64 9) (replicate 64 5) in
     pick (eqb (o .no) 0) (feedOf (o .sketch) (o .regs) (o .aux) (replicate 64 5) cs) o
 
+-- a sketch fed the coupons of an image
+unfoldable pub fedOn : Out → List ℕ → Out
+fedOn o l = feedImageOf (o .sketch) (o .regs) (o .aux) (replicate 64 5) l
+
 -- the book agrees
 unfoldable pub agrees : Case → Bool
 agrees (history s image) = same (compared 16 (imageFrom (made s))) (compared 16 image)
 agrees (merged t ss image) = same (compared 16 (imageFrom (mergedAll (made t) ss))) (compared 16 image)
 agrees (opened l cs image) = same (compared 32 (imageFrom (openedOut l cs))) (compared 32 image)
 agrees (refused l) = pick (eqb (openedOut l [] .no) 0) false true
+agrees (fed s l image) = same (compared 16 (imageFrom (fedOn (made s) l))) (compared 16 image)
 
 -- on each case
 unfoldable pub agreesAll : List Case → Bool

@@ -3,6 +3,8 @@
 use crate::hex;
 use crate::same;
 use model::Sketch;
+ghost use Prim.Native.Nat.{_≤_};
+ghost use lib.ListN.{length};
 
 // Registers for lg_k up to 10, and a table for as many exceptions as there can be.
 pub struct Held {
@@ -129,13 +131,14 @@ fn size_in(image: &[u8]) -> usize {
     size_of(kind_of(image[7]), image[3])
 }
 
-pub struct Opened {
-    pub no: u8,
-    pub place: u32,
-    pub held: Held,
+// What a call answered to an image, and the sketch after it.
+struct Answered {
+    no: u8,
+    place: u32,
+    held: Held,
 }
 
-fn try_open(image: &[u8]) -> Opened {
+fn try_open(image: &[u8]) -> Answered {
     let mut regs = [7u8; 1024];
     let mut aux = [9u32; 2048];
     let mut scratch = [5u32; 2048];
@@ -143,7 +146,7 @@ fn try_open(image: &[u8]) -> Opened {
     let made = image_open::open(image, &mut regs[..n], &mut aux, &mut scratch);
     let answer = made.answer;
     let sketch = made.sketch;
-    Opened {
+    Answered {
         no: model::number(answer),
         place: model::place(answer),
         held: Held { sketch, regs, aux },
@@ -162,13 +165,59 @@ pub fn refuses(image: &[u8]) -> bool {
     no != 0 && no != 3 && no != 6
 }
 
-// The number, the four bytes of the place, the image.
+// A line that begins with the number and the four bytes of the place; an image follows.
+fn begins(said: &[u8], no: u8, place: u32) -> bool
+    requires { ⌜ 5 ≤ length (now said) ⌝ }
+{
+    no == said[0] && place == hex::word(said[1], said[2], said[3], said[4])
+}
+
 pub fn answers(said: &[u8]) -> bool {
     if said.len() < 5 {
         return false;
     }
     let o = try_open(&said[5..]);
-    o.no == said[0] && o.place == hex::word(said[1], said[2], said[3], said[4])
+    begins(said, o.no, o.place)
+}
+
+fn try_feed(held: Held, image: &[u8]) -> Answered {
+    let s = held.sketch;
+    let mut regs = held.regs;
+    let mut aux = held.aux;
+    let mut scratch = [5u32; 2048];
+    let n = same::clipped(size_of(s.kind, s.lg_k), &regs);
+    let fed = image_feed::feed_image(s, &mut regs[..n], &mut aux, &mut scratch, image);
+    let answer = fed.answer;
+    let sketch = fed.sketch;
+    Answered {
+        no: model::number(answer),
+        place: model::place(answer),
+        held: Held { sketch, regs, aux },
+    }
+}
+
+pub fn feed_image(held: Held, image: &[u8]) -> Done {
+    let f = try_feed(held, image);
+    let next = f.held;
+    changed(f.no, held, next)
+}
+
+// Refused, the memory is what it was.
+fn kept(no: u8, before: Held, after: Held) -> bool {
+    let regs = before.regs;
+    let aux = before.aux;
+    let left = after.regs;
+    let over = after.aux;
+    no == 0 || same::bytes(&left, &regs, 0) && same::words(&over, &aux)
+}
+
+pub fn feed_answers(held: Held, said: &[u8]) -> bool {
+    if said.len() < 5 {
+        return false;
+    }
+    let f = try_feed(held, &said[5..]);
+    let after = f.held;
+    kept(f.no, held, after) && begins(said, f.no, f.place)
 }
 
 // Into a slice, whose length is known after the call; unpack refuses any other length than k.

@@ -6,6 +6,7 @@
 //
 //     S KIND LGK    an empty sketch is started (a byte each)
 //     F WORD..      it is fed these coupons
+//     L BYTE..      it is fed the coupons of this image, a list or a set
 //     O BYTE..      this image is opened, and is the sketch from here on
 //     P             the sketch and the one aside change places
 //     M             the one aside is merged into the sketch
@@ -15,6 +16,7 @@
 //     J BYTE..      the same of a sketch that was opened: 16 to 31 are not compared either, since the Rust keeps what it read there
 //     X BYTE..      this image is refused; the sketch stays as it is
 //     A NO PLACE BYTE..   this image has this answer, a byte, at this place, a word; 0 and 0 if it opens. The sketch stays as it is
+//     B NO PLACE BYTE..   the same of a list or a set that is fed to the sketch, which stays as it is; 0 and 0 if it is taken
 //
 // A line that says something else than our calls counts as one difference, and so does one that can't be read.
 mod held;
@@ -50,6 +52,7 @@ fn tells(letter: u8, said: &[u8], held: Held) -> bool {
         b'J' => held::has_image(held, said, 32),
         b'X' => held::refuses(said),
         b'A' => held::answers(said),
+        b'B' => held::feed_answers(held, said),
         _ => false,
     }
 }
@@ -66,6 +69,7 @@ fn obey(letter: u8, said: &[u8], held: Held, aside: Held) -> Turn {
     let done = match letter {
         b'S' => held::start(held, said),
         b'F' => held::feed(held, said),
+        b'L' => held::feed_image(held, said),
         b'O' => held::open(held, said),
         b'M' => held::merge(held, said, aside),
         _ => held::told(tells(letter, said, held), held),

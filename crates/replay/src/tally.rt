@@ -3,6 +3,7 @@ pub struct Tally {
     pub lines: u64,
     pub histories: u64,
     pub batches: u64,
+    pub lists: u64,
     pub opens: u64,
     pub refusals: u64,
     pub places: u64,
@@ -18,6 +19,7 @@ pub fn none() -> Tally {
         lines: 0,
         histories: 0,
         batches: 0,
+        lists: 0,
         opens: 0,
         refusals: 0,
         places: 0,
@@ -61,9 +63,10 @@ fn agreeing(mut t: Tally, letter: u8, n: usize) -> Tally {
     match letter {
         b'S' => t.histories = plus(t.histories, 1),
         b'F' => t.batches = plus(t.batches, 1),
+        b'L' => t.lists = plus(t.lists, 1),
         b'O' => t.opens = plus(t.opens, 1),
         b'X' => t.refusals = plus(t.refusals, 1),
-        b'A' => t.places = plus(t.places, 1),
+        b'A' | b'B' => t.places = plus(t.places, 1),
         b'M' => t.merges = plus(t.merges, 1),
         b'R' => t.registers = plus(t.registers, n),
         b'T' => t.words = plus(t.words, n / 4),
@@ -86,6 +89,7 @@ pub fn report(t: Tally) {
     show(b"lines=", t.lines);
     show(b"histories=", t.histories);
     show(b"batches=", t.batches);
+    show(b"lists=", t.lists);
     show(b"opens=", t.opens);
     show(b"refusals=", t.refusals);
     show(b"places=", t.places);

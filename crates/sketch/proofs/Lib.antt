@@ -1,3 +1,2 @@
-pub mod PlainKept
 pub mod Outcomes
 pub mod Merging

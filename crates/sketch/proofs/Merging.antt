@@ -27,7 +27,7 @@ use Rattle.blocks.proofs.Levels.{good-level, whole-floor, whole-floors, good-wo
 use Rattle.model.proofs.calls.Rungs.{no-target, no-source, no-finer}
 use Rattle.sketch_check.proofs.ByKind.{eight-long}
 use Rattle.sketch.specs.Asked.{Unpackable, Joinable}
-use Rattle.sketch.proofs.PlainKept.{eight-kept}
+use Rattle.sketch_feed.proofs.PlainKept.{eight-kept}
 
 -- ---- the source: its floors, then the words of its table
 module _ (s : Sketch) (regs aux : List ℕ) (n : ℕ) (j : Joinable s regs aux n) where

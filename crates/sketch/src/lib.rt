@@ -5,31 +5,16 @@ use model::Fed;
 use model::Made;
 use model::Sketch;
 ghost use mathlib.Core.Path.{_≡_};
-ghost use mathlib.Core.Bool.{true};
 ghost use mathlib.Core.List.{[]};
-ghost use mathlib.Core.Logic.{_⊎_};
+ghost use mathlib.Core.Bool.{true};
 ghost use Prim.Native.Nat.{_^_};
 ghost use lib.Dec.{eqb};
 ghost use lib.ListN.{length};
-ghost use Rattle.model.specs.Answers.{numberOf, said, saidOf};
-ghost use Rattle.model.specs.Registers.{fed, joined};
-ghost use Rattle.model.specs.Sketch.{sketchOf, areaOf, registers};
+ghost use Rattle.model.specs.Answers.{numberOf};
+ghost use Rattle.model.specs.Registers.{joined};
+ghost use Rattle.model.specs.Sketch.{areaOf, registers};
 ghost use Rattle.model.specs.Calls.{madeOut, fedOut, startOf, feedOf, unpackedTo, unpackOf, eightNo, viewOf, mergeOf};
-ghost use Rattle.sketch.specs.Asked.{Plain, Unpackable, Joinable};
-ghost use Rattle.sketch.specs.Given.{KeptAs};
-
-// A record that says only how many registers are zero: of kinds 6 and 8, and of an empty sketch.
-fn plain(kind: u8, lg_k: u8, zeros: u32) -> Sketch
-    ensures { λ r. ⌜ r ≡ sketchOf kind «lg_k» 0 zeros 0 ⌝ }
-{
-    Sketch {
-        kind,
-        lg_k,
-        cur_min: 0,
-        num_at_cur_min: zeros,
-        aux_count: 0,
-    }
-}
+ghost use Rattle.sketch.specs.Asked.{Unpackable, Joinable};
 
 // Kinds 6 and 8 leave the exception area alone.
 fn clear_area(kind: u8, aux: &mut [u32])
@@ -53,7 +38,7 @@ pub fn start(kind: u8, lg_k: u8, regs: &mut [u8], aux: &mut [u32]) -> Made
     clear_area(kind, aux);
     Made {
         answer: Answer::Ok,
-        sketch: plain(kind, lg_k, k as u32),
+        sketch: sketch_feed::plain(kind, lg_k, k as u32),
     }
 }
 
@@ -78,32 +63,6 @@ pub fn view(sketch: Sketch, regs: &[u8]) -> &[u8]
     array8::values(regs)
 }
 
-// Kinds 6 and 8 take every coupon.
-fn feed_plain(s: Sketch, regs: &mut [u8], coupons: &[u32]) -> Sketch
-    requires { ⌜ Plain s (now regs) ⌝ }
-    ensures { λ r. ⌜ KeptAs (s .kind) (s .«lg_k») (fed (2 ^ s .«lg_k») (registers s (now (regs .entry)) []) (now (coupons .entry))) r (now (regs .exit)) ⌝ }
-{
-    let lg_k = s.lg_k;
-    let zeros = s.num_at_cur_min;
-    if s.kind == 8 {
-        let left = array8::feed(lg_k, zeros, regs, coupons);
-        return plain(8, lg_k, left);
-    }
-    let left = array6::feed(lg_k, zeros, regs, coupons);
-    plain(6, lg_k, left)
-}
-
-// A batch's own answer: all coupons were taken, or one found no room.
-fn batch_answer(no: u8) -> Answer
-    requires { ⌜ (no ≡ 0) ⊎ (no ≡ 6) ⌝ }
-    ensures { λ r. ⌜ saidOf r ≡ said no 0 ⌝ }
-{
-    if no == 0 {
-        return Answer::Ok;
-    }
-    Answer::NoRoom
-}
-
 pub fn feed(
     sketch: Sketch,
     regs: &mut [u8],
@@ -113,30 +72,11 @@ pub fn feed(
 ) -> Fed
     ensures { λ r. ⌜ fedOut r (now (regs .exit)) (now (aux .exit)) ≡ feedOf sketch (now (regs .entry)) (now (aux .entry)) (now (scratch .entry)) (now (coupons .entry)) ⌝ }
 {
-    let fits = shape::scratch_fits(sketch.kind, aux.len(), scratch.len());
-    let answer = sketch_check::check(fits, sketch, regs, aux);
+    let answer = sketch_feed::check(sketch, regs, aux, scratch.len());
     if model::number(answer) != 0 {
-        return Fed {
-            answer,
-            sketch,
-            taken: 0,
-        };
+        return sketch_feed::refused(answer, sketch);
     }
-    if sketch.kind == 4 {
-        let fed = array4::feed(sketch, regs, aux, scratch, coupons);
-        let after = fed.sketch;
-        return Fed {
-            answer: batch_answer(fed.no),
-            sketch: after,
-            taken: fed.taken,
-        };
-    }
-    let after = feed_plain(sketch, regs, coupons);
-    Fed {
-        answer: Answer::Ok,
-        sketch: after,
-        taken: coupons.len(),
-    }
+    sketch_feed::feed(sketch, regs, aux, scratch, coupons)
 }
 
 // Any lg_k may be asked about: from 64 on no slice is so long.
@@ -222,6 +162,6 @@ pub fn merge(target: Sketch, tregs: &mut [u8], source: Sketch, sregs: &[u8], sau
     let left = survey_whole::count(8, tregs, 0);
     Made {
         answer: Answer::Ok,
-        sketch: plain(8, target.lg_k, left),
+        sketch: sketch_feed::plain(8, target.lg_k, left),
     }
 }

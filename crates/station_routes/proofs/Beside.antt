@@ -6,7 +6,7 @@ use Prim.Native.Nat.{ℕ, _+_, _*_}
 use native.Mathlib.Omega.{arith}
 use lib.Dec.{eqb}
 use borrow.Author.Tests.{eqb-true, eqb-false, eq-eqb, ne-eqb}
-use Rattle.model.specs.History.{none, World, Call, start, feed, merge, send, step, after, run}
+use Rattle.model.specs.History.{none, World, Call, start, feed, feedImage, merge, send, step, after, run}
 
 -- calls after calls
 pub after-append : (w : World) (cs ds : List Call) → after w (cs ++ ds) ≡ after (after w cs) ds
@@ -18,6 +18,7 @@ after-append w (c ∷ cs) ds = after-append (step w c) cs ds
 renamed : (ℕ → ℕ) → Call → Call
 renamed f (start n kind lgk regs aux) = start (f n) kind lgk regs aux
 renamed f (feed n scratch cs) = feed (f n) scratch cs
+renamed f (feedImage n scratch l) = feedImage (f n) scratch l
 renamed f (merge n m) = merge (f n) (f m)
 renamed f (send n m buf regs aux scratch) = send (f n) (f m) buf regs aux scratch
 
@@ -33,6 +34,7 @@ module _ (f : ℕ → ℕ) (one : (i j : ℕ) → f i ≡ f j → i ≡ j) where
   unfolding step renamed
   step-renamed w (start n kind lgk regs aux) i = rw same-number
   step-renamed w (feed n scratch cs) i = rw same-number
+  step-renamed w (feedImage n scratch l) i = rw same-number
   step-renamed w (merge n m) i = rw same-number
   step-renamed w (send n m buf regs aux scratch) i = rw same-number
 
@@ -47,6 +49,7 @@ module _ (f : ℕ → ℕ) (n : ℕ) (other : (i : ℕ) → eqb n (f i) ≡ fals
   unfolding step renamed
   step-other w (start m kind lgk regs aux) = rw other
   step-other w (feed m scratch cs) = rw other
+  step-other w (feedImage m scratch l) = rw other
   step-other w (merge m k) = rw other
   step-other w (send m k buf regs aux scratch) = rw other
 

@@ -18,9 +18,9 @@ use Rattle.model.specs.declared.Sketch.{Sketch}
 use Rattle.model.proofs.calls.Ladder.{shape-says}
 use Rattle.model.proofs.order.Tells.{tells-true}
 use Rattle.model.proofs.order.Tests.{scratch-tells}
-use Rattle.model.proofs.calls.Has.{ok-check, good-bytes, start-has, feed-has, feed-line, merge-says, merge-has}
+use Rattle.model.proofs.calls.Has.{ok-check, good-bytes, start-has, batch-line, feed-is, merge-says, merge-has}
 use Rattle.model.proofs.histories.Demands.{holds-stands}
-use Rattle.model.proofs.Claims.{twice-is-room}
+use Rattle.model.proofs.Claims.{feed-keeps, twice-is-room}
 use Rattle.station_routes.proofs.Beside.{after-append, even, odd, both, beside-even, beside-odd}
 
 -- what a call gives back stands
@@ -53,25 +53,24 @@ module _ {kind lgk : ℕ} {got : List ℕ} {s : Sketch} {regs aux : List ℕ} (s
 
   took : {count answer : ℕ} → p .no ≡ answer → FeedLine s regs aux cs count answer → count ≡ length cs
   took q (inl (n, m, g)) = m
-  took q (inr (n, m, x, g)) = absurd (twice-is-room s regs aux scratch cs (good-bytes (stands-good h)) (rw (h .same-size) (room (sym (h .same-kind) ∙ x .0))) (q ∙ n))
+  took q (inr (n, m, x, g)) = absurd (twice-is-room s regs aux scratch cs [] (good-bytes (stands-good h)) (rw (h .same-size) (room (sym (h .same-kind) ∙ x .0))) .0 (q ∙ n))
 
   pub stands-feed : Gives kind lgk (got ++ cs) o
   unfolding step feeds
   stands-feed =
       let g = stands-good h in
       let fits : scratchFits (s .kind) (length aux) (length scratch) ≡ true = tells-true _ (scratch-tells (s .kind) aux scratch) (rw (h .same-kind) scratched) in
-      let m = feed-has s regs aux scratch cs g (ok-check _ s regs aux fits g) in
-      let all : take (p .count) cs ≡ cs = ap (λ (k : ℕ). take k cs) (m .1 ∙ took (m .0) (feed-line s regs aux scratch cs g)) ∙ take-length cs in
+      let is = feed-is s regs aux scratch cs (ok-check _ s regs aux fits g) in
+      let m = feed-keeps s regs aux scratch cs g in
+      let all : take (p .count) cs ≡ cs = ap (λ (k : ℕ). take k cs) (ap (λ (q : Out). q .count) is ∙ took (ap (λ (q : Out). q .no) is) (batch-line s regs aux cs g)) ∙ take-length cs in
       let call = feed (h .number) scratch cs in
+      let fed = feeds (λ s regs aux. feedOf s regs aux scratch cs) cs in
       rw e (record {
         calls = h .calls ++ (call ∷ []);
         number = h .number;
-        stands =
-            one-more (h .calls) (h .number) call (λ w. feeds (w (h .number)) scratch cs) (λ w. refl)
-            ∙ ap (λ (q : Place). feeds q scratch cs) (h .stands)
-            ∙ ap (λ (l : List ℕ). here (p .sketch) (p .regs) (p .aux) (got ++ l)) all;
-        same-kind = m .2 .same-kind ∙ h .same-kind;
-        same-size = m .2 .same-size ∙ h .same-size;
+        stands = one-more (h .calls) (h .number) call (λ w. fed (w (h .number))) (λ w. refl) ∙ ap fed (h .stands) ∙ ap (λ (l : List ℕ). here (p .sketch) (p .regs) (p .aux) (got ++ l)) all;
+        same-kind = m .same-kind ∙ h .same-kind;
+        same-size = m .same-size ∙ h .same-size;
       })
 
 -- ---- merge: the two histories go side by side

@@ -78,10 +78,24 @@ unsafe extern "C" {
         s: usize,
         place: *mut u32,
     ) -> u32;
+    #[cfg(feature = "lists")]
+    fn lp_feed_image(
+        record: *mut u32,
+        regs: *mut u8,
+        n: usize,
+        aux: *mut u32,
+        m: usize,
+        scratch: *mut u32,
+        s: usize,
+        image: *const u8,
+        i: usize,
+        taken: *mut usize,
+        place: *mut u32,
+    ) -> u32;
 }
 
 /// Each call that answers a number, with the numbers that it can answer.
-pub const CALLS: [(&str, &[u32]); 7] = [
+pub const CALLS: [(&str, &[u32]); 8] = [
     ("start", &[0, 1, 2, 3]),
     ("feed", &[0, 1, 2, 3, 4, 6]),
     ("unpack", &[0, 1, 2, 3, 4]),
@@ -96,13 +110,17 @@ pub const CALLS: [(&str, &[u32]); 7] = [
             &[]
         },
     ),
+    (
+        "feed_image",
+        if cfg!(feature = "lists") { &[0, 1, 2, 3, 4, 5, 6, 7, 8, 9, 26, 27] } else { &[] },
+    ),
 ];
 
 /// One above the largest answer.
-pub const NUMBERS: usize = 26;
+pub const NUMBERS: usize = 28;
 
 const NONE: [AtomicUsize; NUMBERS] = [const { AtomicUsize::new(0) }; NUMBERS];
-static ANSWERS: [[AtomicUsize; NUMBERS]; 7] = [NONE; 7];
+static ANSWERS: [[AtomicUsize; NUMBERS]; 8] = [NONE; 8];
 
 /// How often the call answered so.
 pub fn answers(call: usize, number: usize) -> usize {
@@ -240,4 +258,33 @@ pub fn open(
         )
     };
     (counted(6, number), place)
+}
+
+/// The answer, its place, and how many coupons were taken.
+#[cfg(feature = "lists")]
+pub fn feed_image(
+    record: &mut [u32],
+    regs: &mut [u8],
+    aux: &mut [u32],
+    scratch: &mut [u32],
+    image: &[u8],
+) -> (u32, u32, usize) {
+    assert_eq!(record.len(), 5);
+    let (mut taken, mut place) = (usize::MAX, u32::MAX);
+    let number = unsafe {
+        lp_feed_image(
+            record.as_mut_ptr(),
+            regs.as_mut_ptr(),
+            regs.len(),
+            aux.as_mut_ptr(),
+            aux.len(),
+            scratch.as_mut_ptr(),
+            scratch.len(),
+            image.as_ptr(),
+            image.len(),
+            &mut taken,
+            &mut place,
+        )
+    };
+    (counted(7, number), place, taken)
 }

@@ -7,6 +7,10 @@ mod good;
 mod histories;
 mod least;
 mod lent;
+#[cfg(feature = "lists")]
+mod list_refusals;
+#[cfg(feature = "lists")]
+mod lists;
 mod merges;
 #[cfg(feature = "open")]
 mod opened;
@@ -49,6 +53,10 @@ fn compare(n: u64, seed: u64) -> Result<(), String> {
     println!("{}", opened::compare_all(n, seed)?);
     #[cfg(feature = "open")]
     println!("{}", words::compare_all(n, seed)?);
+    #[cfg(feature = "lists")]
+    println!("{}", lists::compare_all(n, seed)?);
+    #[cfg(feature = "lists")]
+    println!("{}", list_refusals::compare_all(n, seed)?);
     println!("{}", refusals::compare_all(n, seed)?);
     println!("{}", refusals::table()?);
     Ok(())

@@ -75,6 +75,13 @@ impl Ours {
         call::open(image, record.all_mut(), regs.all_mut(), aux.all_mut(), scratch.all_mut())
     }
 
+    /// The answer, its place, and how many coupons were taken.
+    #[cfg(feature = "lists")]
+    pub fn feed_image(&mut self, image: &[u8]) -> (u32, u32, usize) {
+        let Ours { record, regs, aux, scratch } = self;
+        call::feed_image(record.all_mut(), regs.all_mut(), aux.all_mut(), scratch.all_mut(), image)
+    }
+
     /// Nothing was written around the lent slices.
     pub fn intact(&self) -> Result<(), String> {
         let kept =

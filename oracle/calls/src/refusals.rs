@@ -5,6 +5,8 @@ use crate::draw;
 use crate::good;
 use crate::histories::{feed, start};
 use crate::lent::Lent;
+#[cfg(feature = "lists")]
+use crate::list_refusals;
 use crate::ours::{Ours, answered, bytes};
 use crate::room::Room;
 use oracle::Door;
@@ -34,6 +36,8 @@ fn all(ours: &Ours, tally: &mut usize) -> Result<(), String> {
         if taken != 0 || !fed.same(ours) {
             return Err(format!("feed of nothing takes {taken}, or changed something"));
         }
+        #[cfg(feature = "lists")]
+        list_refusals::unchanging(&mut fed, wanted)?;
         let (number, taken) = fed.feed(&[63 << 26, 0, 1 << 26 | 7]);
         if wanted != 0 && ((number, taken) != (wanted, 0) || !fed.same(ours)) {
             return Err(format!(

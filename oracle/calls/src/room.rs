@@ -4,6 +4,7 @@ use crate::order::size;
 use oracle::AuxMap;
 
 /// Registers counted by value, so that cur_min and the number of exceptions are at hand.
+#[derive(Clone)]
 pub struct Room {
     kind: u8,
     base: usize,

@@ -11,13 +11,13 @@ use oracle::examples::Random;
 use oracle::{Door, State};
 
 #[derive(Default)]
-struct Tally {
+pub struct Tally {
     written: usize,
     bytes: usize,
 }
 
 /// The image of a sketch that has a history, in buffers that are just long enough, longer, and too short.
-fn written(ours: &Ours, rust: &State, tally: &mut Tally) -> Result<(), String> {
+pub fn written(ours: &Ours, rust: &State, tally: &mut Tally) -> Result<(), String> {
     let long = rust.image.len();
     for room in [long, long + 1, long + 9, long - 1, 40, 0] {
         let mut out = Lent::noise(room);

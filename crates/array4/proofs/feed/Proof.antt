@@ -51,7 +51,7 @@ returns c =
     let u = c .before .before .before .before .before .before .before .before .before in
     let t = u .before .before .before .before .before in
     let l = t .before in
-    feeding.feeding-stop (l .loop .inv .3) (t .loop-test .taken) _ _ _ _ (u .update .ensures) (not-true _ (c .if1 .taken))
+    feeding.feeding-stop (l .loop .inv .3) (t .loop-test .taken) _ _ _ _ (u .update .ensures) (not-true _ (c .if1 .taken)) ∙ feeding.feeding-is _ _ _ _ (l .before .before .before .before .before .pre .kind)
 
 loop-less : tie.Need-loop-less Inv-loop μ-loop
 loop-less c =
@@ -82,7 +82,7 @@ same-length-6 c = c .before .loop .inv .2
 returns-2 : tie.Need-returns-2 Inv-loop μ-loop
 returns-2 c =
     let l = c .before in
-    feeding.feeding-end (l .loop .inv .3) (omega (arith, l .loop .inv .3 .upto, c .loop-test .left))
+    feeding.feeding-end (l .loop .inv .3) (omega (arith, l .loop .inv .3 .upto, c .loop-test .left)) ∙ feeding.feeding-is _ _ _ _ (l .before .before .before .before .before .pre .kind)
 
 pub feed-spec : {M : Type 1} → statement M
 feed-spec =

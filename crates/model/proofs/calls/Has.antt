@@ -19,7 +19,7 @@ use Rattle.model.specs.Steps.{Step, went, Ran, ran}
 use Rattle.model.specs.Four.{State, state, nibble, storedAt, TableAt, NoRoom}
 use Rattle.model.specs.Sketch.{bytesOf, stored, areaOf, registers, Good}
 use Rattle.model.specs.Check.{shapeNo, scratchFits, checkNo}
-use Rattle.model.specs.Calls.{keptOut, startOf, stateOf, stepOf, feedOf, eightNo, mergeNo, mergeOf}
+use Rattle.model.specs.Calls.{keptOut, startOf, stateOf, stepOf, batchOf, feedOf, eightNo, mergeNo, mergeOf}
 use Rattle.model.specs.declared.Sketch.{Sketch}
 use Rattle.model.proofs.order.Tells.{tells-le, tells-eq, tells-true}
 use Rattle.model.proofs.calls.Ladder.{Says, says-as, says-self, says-pass, says-last, says-next, shape-says, check-says}
@@ -80,8 +80,8 @@ start-has kind lgk regs aux e =
           }),
     )
 
--- ---- feed: the coupons that were taken
-module _ (s : Sketch) (regs aux scratch cs : List ℕ) (g : Good s regs aux) where
+-- ---- a batch: the coupons that were taken
+module _ (s : Sketch) (regs aux cs : List ℕ) (g : Good s regs aux) where
   abbrev k : ℕ
   k = 2 ^ s .«lg_k»
 
@@ -103,22 +103,28 @@ module _ (s : Sketch) (regs aux scratch cs : List ℕ) (g : Good s regs aux) whe
   abbrev r : Ran State
   r = ran f (stateOf s regs aux) cs
 
-  pub feed-has : checkNo (scratchFits (s .kind) (length aux) (length scratch)) s regs aux ≡ 0
-      → let o = feedOf s regs aux scratch cs in (o .no ≡ r .no) × (o .count ≡ r .count) × Has (s .kind) (s .«lg_k») (r .state) (o .sketch) (o .regs) (o .aux) × (r .state .regs ≡ fed k (registers s regs aux) (take (o .count) cs))
-  unfolding feedOf keptOut stateOf
-  feed-has e =
+  pub batch-sound : Possible (r .state)
+  batch-sound = ran-keeps State f k Possible (λ a. a .regs) goes cs (stateOf s regs aux) possible .0
+
+  pub batch-has : let o = batchOf s regs aux cs in (o .no ≡ r .no) × (o .count ≡ r .count) × Has (s .kind) (s .«lg_k») (r .state) (o .sketch) (o .regs) (o .aux) × (r .state .regs ≡ fed k (registers s regs aux) (take (o .count) cs))
+  unfolding batchOf keptOut stateOf
+  batch-has =
       let q = ran-keeps State f k Possible (λ a. a .regs) goes cs (stateOf s regs aux) possible in
-      rw (eq-eqb (checkNo (scratchFits (s .kind) (length aux) (length scratch)) s regs aux) 0 e)
       (refl, refl, law .kept (s .«lg_k») (r .state) aux (g .shaped .low) (g .shaped .high) (q .0), q .1)
 
   -- where it stops
-  pub feed-line : FeedLine s regs aux cs (r .count) (r .no)
-  unfolding stateOf
-  feed-line =
+  pub batch-line : let o = batchOf s regs aux cs in FeedLine s regs aux cs (o .count) (o .no)
+  unfolding batchOf keptOut stateOf
+  batch-line =
       ran-line State f k Possible (λ a. a .regs) (λ R c. (s .kind ≡ 4) × NoRoom (baseFor (s .«lg_k»)) (length aux) R (home k c) (value c)) goes
       (λ a c. law .stops (s .«lg_k») (length aux) a c (g .shaped .low) (g .shaped .high))
       (λ a c o h. law .stops-only (s .«lg_k») (length aux) a c (g .shaped .low) (g .shaped .high) o (h .0) (h .1))
       cs (stateOf s regs aux) possible
+
+-- feed is a batch behind the checks
+pub feed-is : (s : Sketch) (regs aux scratch cs : List ℕ) → checkNo (scratchFits (s .kind) (length aux) (length scratch)) s regs aux ≡ 0 → feedOf s regs aux scratch cs ≡ batchOf s regs aux cs
+unfolding feedOf
+feed-is s regs aux scratch cs e = rw (eq-eqb (checkNo (scratchFits (s .kind) (length aux) (length scratch)) s regs aux) 0 e)
 
 pub registers-long : (s : Sketch) (regs aux : List ℕ) → Good s regs aux → length (registers s regs aux) ≡ 2 ^ s .«lg_k»
 unfolding stateOf

@@ -8,6 +8,7 @@ use lib.Dec.{eqb}
 use lib.ListN.{length}
 use borrow.Author.Tests.{eqb-true, eqb-false, eq-eqb, ne-eqb}
 use Rattle.model.specs.Pick.{pick, firstOf, Tells}
+use Rattle.model.specs.Answers.{Said, said}
 use Rattle.model.specs.Sketch.{isKind, bytesOf, Shaped}
 use Rattle.model.specs.Check.{goodOf, lgkNo, sizeNo, shapeNo, checkNo}
 use Rattle.model.specs.Claims.{Unless, refused, passed}
@@ -73,6 +74,17 @@ pub unless : {Q : Type 0} {next : ℕ → Type 0} (b : Bool) (n : ℕ) (ns : Lis
 unfolding firstOf
 unless true n ns t f = passed (t .0 refl) (f (t .0 refl))
 unless false n ns t f = refused (t .1 refl) (rw (ne-eqb (suc n) 0 (λ e. omega arith)))
+
+-- a number with the place that goes by it
+abbrev pub saidBy : (ℕ → ℕ) → ℕ → Said
+saidBy place n = said n (place n)
+
+-- the same of a line that names no place, among lines that may
+pub plain : (place : ℕ → ℕ) {Q : Type 0} {next : Said → Type 0} (b : Bool) (n : ℕ) (ns : List ℕ) → place (suc n) ≡ 0 → Tells b Q → (Q → next (saidBy place (firstOf ns)))
+    → Unless (said (suc n) 0) Q next (saidBy place (firstOf (pick b 0 (suc n) ∷ ns)))
+unfolding firstOf
+plain place true n ns z t f = passed (t .0 refl) (f (t .0 refl))
+plain place false n ns z t f = refused (t .1 refl) (rw (ne-eqb (suc n) 0 (λ e. omega arith), z))
 
 -- ---- the refusals that all calls share
 pub lgk-says : (lgk : ℕ) → Says (lgkNo lgk) ((4 ≤ lgk) × (lgk ≤ 21))

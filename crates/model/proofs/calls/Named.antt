@@ -24,7 +24,7 @@ named s =
     let n = s .no in
     pick (eqb n 0) v.Ok (pick (eqb n 1) v.Kind (pick (eqb n 2) v.LgK (pick (eqb n 3) v.Size (pick (eqb n 4) v.Damaged (pick (eqb n 5) v.Finer (pick (eqb n 6) v.NoRoom (pick (eqb n 7) v.Short
     (pick (eqb n 8) v.Header (pick (eqb n 9) v.Mode (pick (eqb n 10) v.Counts (pick (eqb n 11) v.LgArr (pick (eqb n 12) v.Value (pick (eqb n 14) v.Spare (pick (eqb n 15) v.Tally (pick (eqb n 16) v.Out
-    (pick (eqb n 21) (v.AuxEmpty (s .place)) (pick (eqb n 22) (v.AuxTwice (s .place)) (pick (eqb n 23) (v.AuxLow (s .place)) (pick (eqb n 24) v.AuxCount (v.AuxMatch (s .place)))))))))))))))))))))
+    (pick (eqb n 21) (v.AuxEmpty (s .place)) (pick (eqb n 22) (v.AuxTwice (s .place)) (pick (eqb n 23) (v.AuxLow (s .place)) (pick (eqb n 24) v.AuxCount (pick (eqb n 25) (v.AuxMatch (s .place)) (pick (eqb n 26) v.Form (v.ListEmpty (s .place)))))))))))))))))))))))
 
 named-said : (a : Answer) → named (saidOf a) ≡ a
 unfolding named
@@ -49,6 +49,8 @@ named-said (v.AuxTwice i) = refl
 named-said (v.AuxLow i) = refl
 named-said v.AuxCount = refl
 named-said (v.AuxMatch s) = refl
+named-said v.Form = refl
+named-said (v.ListEmpty i) = refl
 
 -- an answer is known by what it says
 pub said-one : (a b : Answer) → saidOf a ≡ saidOf b → a ≡ b

@@ -11,7 +11,7 @@ use Rattle.model.specs.Answers.{numberOf, placeOf}
 use Rattle.model.specs.Table.{baseFor, tableSize}
 use Rattle.model.specs.Sketch.{isKind, bytesOf}
 use Rattle.model.specs.Check.{goodOf, countsFit, sizeNo, shapeNo, scratchFits, checkNo}
-use Rattle.model.specs.Calls.{Out, keptOut, startOf, feedOf, eightNo, mergeNo, mergeOf}
+use Rattle.model.specs.Calls.{Out, keptOut, startOf, batchOf, feedOf, eightNo, mergeNo, mergeOf}
 use Rattle.model.specs.Image.{sketchIn, wordCount, lgArrFits, headerNo, formNo, memoryNo, countsNo, roomNo}
 use Rattle.model.specs.declared.Sketch.{Sketch}
 use Rattle.model.specs.declared.Answer.{Answer}
@@ -41,24 +41,28 @@ low-place (v.AuxTwice i) h = absurd (omega arith)
 low-place (v.AuxLow i) h = absurd (omega arith)
 low-place v.AuxCount h = refl
 low-place (v.AuxMatch s) h = absurd (omega arith)
+low-place v.Form h = refl
+low-place (v.ListEmpty i) h = absurd (omega arith)
 
 -- ---- the numbers of these
 abbrev Low : ℕ → Type 0
 Low n = n < 21
 
-pub shape-low : (kind lgk len : ℕ) → shapeNo kind lgk len < 21
+pub shape-either : (P : ℕ → Type 0) (kind lgk len : ℕ) → P 0 → P 1 → P 2 → P 3 → P (shapeNo kind lgk len)
 unfolding shapeNo sizeNo
-shape-low kind lgk len =
-    first-either Low _ _ (pick-either Low (isKind kind) (omega arith) (omega arith))
-    (first-either Low _ _ (lgk-either Low lgk (omega arith) (omega arith))
-    (first-either Low _ _ (pick-either Low (eqb len (bytesOf kind lgk)) (omega arith) (omega arith)) (first-none Low (omega arith))))
+shape-either P kind lgk len a b c d =
+    first-either P _ _ (pick-either P (isKind kind) a b) (first-either P _ _ (lgk-either P lgk a c) (first-either P _ _ (pick-either P (eqb len (bytesOf kind lgk)) a d) (first-none P a)))
+
+pub check-either : (P : ℕ → Type 0) (lent : Bool) (s : Sketch) (regs aux : List ℕ) → P 0 → P 1 → P 2 → P 3 → P 4 → P (checkNo lent s regs aux)
+unfolding checkNo
+check-either P lent s regs aux a b c d e =
+    first-either P _ _ (shape-either P (s .kind) (s .«lg_k») (length regs) a b c d) (first-either P _ _ (pick-either P lent a d) (first-either P _ _ (pick-either P (goodOf s regs aux) a e) (first-none P a)))
+
+pub shape-low : (kind lgk len : ℕ) → shapeNo kind lgk len < 21
+shape-low kind lgk len = shape-either Low kind lgk len (omega arith) (omega arith) (omega arith) (omega arith)
 
 pub check-low : (lent : Bool) (s : Sketch) (regs aux : List ℕ) → checkNo lent s regs aux < 21
-unfolding checkNo
-check-low lent s regs aux =
-    first-either Low _ _ (shape-low (s .kind) (s .«lg_k») (length regs))
-    (first-either Low _ _ (pick-either Low lent (omega arith) (omega arith))
-    (first-either Low _ _ (pick-either Low (goodOf s regs aux) (omega arith) (omega arith)) (first-none Low (omega arith))))
+check-low lent s regs aux = check-either Low lent s regs aux (omega arith) (omega arith) (omega arith) (omega arith) (omega arith)
 
 eight-low : (s : Sketch) (regs : List ℕ) → eightNo s regs < 21
 unfolding eightNo
@@ -108,7 +112,7 @@ unfolding startOf keptOut
 start-place kind lgk regs aux = no-place (eqb (shapeNo kind lgk (length regs)) 0) _ _ refl refl
 
 pub feed-place : (s : Sketch) (regs aux scratch cs : List ℕ) → feedOf s regs aux scratch cs .place ≡ 0
-unfolding feedOf keptOut
+unfolding feedOf batchOf keptOut
 feed-place s regs aux scratch cs = no-place (eqb (checkNo (scratchFits (s .kind) (length aux) (length scratch)) s regs aux) 0) _ _ refl refl
 
 pub merge-place : (t : Sketch) (tregs : List ℕ) (s : Sketch) (sregs saux : List ℕ) → mergeOf t tregs s sregs saux .place ≡ 0

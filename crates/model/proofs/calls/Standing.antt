@@ -1,5 +1,5 @@
--- What feed and merge leave of any sketch in good order, and that two words a register are room enough. Assumes nothing.
-use mathlib.Core.Path.{_≡_, refl, sym, _∙_, subst}
+-- What feed, feed_image and merge leave of any sketch in good order, and that two words a register are room enough. Assumes nothing.
+use mathlib.Core.Path.{_≡_, refl, sym, ap, _∙_, subst}
 use mathlib.Core.Bool.{Bool, true, false}
 use mathlib.Core.List.{List, [], _∷_}
 use mathlib.Core.Logic.{inl, inr}
@@ -9,7 +9,7 @@ use native.Mathlib.Omega.{arith}
 use lib.Dec.{eqb, leb}
 use lib.ListN.{length, getD, take}
 use lib.Pow.{pow-pos}
-use borrow.Author.Tests.{eqb-true, lt-leb}
+use borrow.Author.Tests.{lt-leb}
 use Rattle.model.specs.Pick.{pick, all, first}
 use Rattle.model.specs.Coupon.{slot, home}
 use Rattle.model.specs.Registers.{fed, least, above}
@@ -17,8 +17,10 @@ use Rattle.model.specs.Table.{baseFor, sizeFor, tableSize}
 use Rattle.model.specs.Four.{State}
 use Rattle.model.specs.Sketch.{registers, Good}
 use Rattle.model.specs.Check.{scratchFits, checkNo}
-use Rattle.model.specs.Calls.{Out, feedOf}
-use Rattle.model.specs.Claims.{Unless, refused, passed, SketchLines, Scratch, FeedLine, Keeps, FeedKeeps, MergeKeeps, TwiceIsRoom}
+use Rattle.model.specs.Packed.{Bytes}
+use Rattle.model.specs.Calls.{Out, refusedAt, batchOf, feedOf}
+use Rattle.model.specs.Lists.{couponsIn, feedImageNo, emptyPlace, feedImageOf}
+use Rattle.model.specs.Claims.{Unless, refused, passed, SketchLines, Scratch, FeedLine, Keeps, FedTaken, FeedKeeps, FeedImageKeeps, MergeKeeps, TwiceIsRoom}
 use Rattle.model.specs.declared.Sketch.{Sketch}
 use Rattle.model.proofs.order.Tells.{tells-all, tells-le}
 use Rattle.model.proofs.table.Counting.{marks-le, above-marks}
@@ -26,23 +28,26 @@ use Rattle.model.proofs.registers.Raising.{length-fed}
 use Rattle.model.proofs.table.Shape.{size-some, size-shorter}
 use Rattle.model.proofs.order.Sound.{Has}
 use Rattle.model.proofs.histories.Demand1.{feed-lines}
-use Rattle.model.proofs.calls.Has.{ok-check, feed-has, merge-says, merge-has, registers-long}
+use Rattle.model.proofs.calls.Has.{ok-check, batch-has, feed-is, merge-says, merge-has, registers-long}
+use Rattle.model.proofs.calls.Picked.{picked}
+use Rattle.model.proofs.image.Lists.{feed-image-says, feed-image-either}
 
-keeps-has : {kind lgk : ℕ} {a : State} {R : List ℕ} {s : Sketch} {regs aux : List ℕ} → Has kind lgk a s regs aux → a .regs ≡ R → Keeps kind lgk R s regs aux
+pub keeps-has : {kind lgk : ℕ} {a : State} {R : List ℕ} {s : Sketch} {regs aux : List ℕ} → Has kind lgk a s regs aux → a .regs ≡ R → Keeps kind lgk R s regs aux
 keeps-has h e = record { good = h .good; same-kind = h .same-kind; same-size = h .same-size; holds = h .holds ∙ e }
 
-pub feed-keeps : FeedKeeps
-unfolding feedOf fed
-feed-keeps s regs aux scratch cs g = go (eqb (checkNo (scratchFits (s .kind) (length aux) (length scratch)) s regs aux) 0) refl
-  where
-    Left : Out → Type 0
-    Left o = Keeps (s .kind) (s .«lg_k») (fed (2 ^ s .«lg_k») (registers s regs aux) (take (o .count) cs)) (o .sketch) (o .regs) (o .aux)
+-- a call that feeds a batch, or gives back what it got
+fed-or-back : (s : Sketch) (regs aux cs : List ℕ) (n p : ℕ) → Good s regs aux → FedTaken s regs aux cs (pick (eqb n 0) (batchOf s regs aux cs) (refusedAt n p s regs aux))
+unfolding fed
+fed-or-back s regs aux cs n p g =
+    picked n _ _ (FedTaken s regs aux cs) (λ e. let m = batch-has s regs aux cs g in keeps-has (m .2) (m .3)) (λ h. record { good = g; same-kind = refl; same-size = refl; holds = refl })
 
-    go : (b : Bool) → eqb (checkNo (scratchFits (s .kind) (length aux) (length scratch)) s regs aux) 0 ≡ b → Left (feedOf s regs aux scratch cs)
-    go true q =
-        let m = feed-has s regs aux scratch cs g (eqb-true _ _ q) in
-        keeps-has (m .2) (m .3)
-    go false q = rw q (record { good = g; same-kind = refl; same-size = refl; holds = refl })
+pub feed-keeps : FeedKeeps
+unfolding feedOf
+feed-keeps s regs aux scratch cs = fed-or-back s regs aux cs (checkNo (scratchFits (s .kind) (length aux) (length scratch)) s regs aux) 0
+
+pub feed-image-keeps : FeedImageKeeps
+unfolding feedImageOf
+feed-image-keeps s regs aux scratch l = let n = feedImageNo s regs aux scratch l in fed-or-back s regs aux (couponsIn l) n (emptyPlace l n)
 
 pub merge-keeps : MergeKeeps
 merge-keeps t tregs s sregs saux g h e le =
@@ -69,8 +74,8 @@ above-less n (v ∷ vs) (suc s) l h = go (leb n v) (above-less n vs s (le-of-suc
     go true k = suc-le-suc k
     go false k = omega arith
 
-pub twice-is-room : TwiceIsRoom
-twice-is-room s regs aux scratch cs by room e = kind (feed-lines s regs aux scratch cs by) e
+feed-room : (s : Sketch) (regs aux scratch cs : List ℕ) → Bytes regs → 2 * 2 ^ s .«lg_k» ≤ length aux → feedOf s regs aux scratch cs .no ≡ 6 → ⊥
+feed-room s regs aux scratch cs by room e = kind (feed-lines s regs aux scratch cs by) e
   where
     line : (n : ℕ) {a : ℕ} {Q : Type 0} {next : ℕ → Type 0} → (n ≡ 6 → ⊥) → (Q → next a → a ≡ 6 → ⊥) → Unless n Q next a → a ≡ 6 → ⊥
     line n m f (refused h q) z = m (sym q ∙ z)
@@ -91,3 +96,15 @@ twice-is-room s regs aux scratch cs by room e = kind (feed-lines s regs aux scra
 
     kind : {a count : ℕ} → SketchLines (Scratch (s .kind) aux scratch) s regs aux (FeedLine s regs aux cs count) a → a ≡ 6 → ⊥
     kind = line 1 (λ z. omega arith) (λ p. line 2 (λ z. omega arith) (λ q. line 3 (λ z. omega arith) (λ r. line 3 (λ z. omega arith) (λ l. line 4 (λ z. omega arith) (λ g. fits (q .0) (q .1) g)))))
+
+-- an image that is fed is fed as a batch, and none of its refusals is NO_ROOM
+image-room : (s : Sketch) (regs aux scratch l : List ℕ) → Bytes regs → 2 * 2 ^ s .«lg_k» ≤ length aux → feedImageOf s regs aux scratch l .no ≡ 6 → ⊥
+unfolding feedImageOf
+image-room s regs aux scratch l by room =
+    picked (feedImageNo s regs aux scratch l) _ _ (λ (o : Out). o .no ≡ 6 → ⊥)
+    (λ z e. feed-room s regs aux scratch (couponsIn l) by room (ap (λ (o : Out). o .no) (feed-is s regs aux scratch (couponsIn l) (feed-image-says s regs aux scratch l .0 z .0)) ∙ e))
+    (λ h. feed-image-either (λ n. n ≡ 6 → ⊥) s regs aux scratch l (λ e. omega arith) (λ e. omega arith) (λ e. omega arith) (λ e. omega arith) (λ e. omega arith) (λ e. omega arith) (λ e. omega arith)
+    (λ e. omega arith) (λ e. omega arith) (λ e. omega arith) (λ e. omega arith))
+
+pub twice-is-room : TwiceIsRoom
+twice-is-room s regs aux scratch cs l by room = (feed-room s regs aux scratch cs by room, image-room s regs aux scratch l by room)

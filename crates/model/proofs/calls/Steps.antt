@@ -1,10 +1,11 @@
 -- Laws of a batch that may stop. A loop's invariant is `ran f a₀ cs ≡ plus i (ran f a (drop i cs))`: what is left to do, so that no
 -- law about one coupon more at the end is wanted. Assumes nothing.
 use mathlib.Core.Path.{_≡_, refl, sym, ap, _∙_}
-use mathlib.Core.List.{List, [], _∷_}
+use mathlib.Core.List.{List, [], _∷_, _++_}
 use Prim.Native.Nat.{ℕ, suc, _+_, _<_}
 use native.Mathlib.Nat.{zero-add, add-zero, add-suc, suc-add}
 use native.Mathlib.Numerals.{add-one}
+use native.Mathlib.Omega.{arith}
 use lib.ListN.{length, getD, drop, take}
 use lib.Seq.{drop-cons, drop-length}
 use Rattle.model.specs.Steps.{Step, went, stopped, Ran, more, onStep, ran}
@@ -36,6 +37,28 @@ module _ (A : Type 0) (f : A → ℕ → Step A) where
   -- a batch whose first coupon's step is t
   abbrev First : ℕ → List ℕ → A → Step A → Ran A
   First c cs a t = onStep t (record { state = a; count = 0; no = 6 }) (λ b. more (ran f b cs))
+
+  -- a batch of two parts: the second follows where the first has taken all, and else is not begun
+  pub ran-rest : (xs ys : List ℕ) (a : A) → ran f a xs .no ≡ 0 → ran f a (xs ++ ys) ≡ plus (ran f a xs .count) (ran f (ran f a xs .state) ys)
+  unfolding ran
+  ran-rest [] ys a e = ran-begin a ys
+  ran-rest (c ∷ xs) ys a e = go (λ b h. ran-rest xs ys b h) (f a c) e
+    where
+      go : ((b : A) → ran f b xs .no ≡ 0 → ran f b (xs ++ ys) ≡ plus (ran f b xs .count) (ran f (ran f b xs .state) ys)) → (t : Step A) → First c xs a t .no ≡ 0
+          → First c (xs ++ ys) a t ≡ plus (First c xs a t .count) (ran f (First c xs a t .state) ys)
+      go ih (went b) h =
+          ap more (ih b h)
+          ∙ ap (λ (n : ℕ). record { state = ran f (ran f b xs .state) ys .state; count = n; no = ran f (ran f b xs .state) ys .no }) (sym (suc-add (ran f b xs .count) _))
+      go ih stopped h = absurd (omega arith)
+
+  pub ran-halts : (xs ys : List ℕ) (a : A) → (ran f a xs .no ≡ 0 → ⊥) → ran f a (xs ++ ys) ≡ ran f a xs
+  unfolding ran
+  ran-halts [] ys a h = absurd (h refl)
+  ran-halts (c ∷ xs) ys a h = go (λ b k. ran-halts xs ys b k) (f a c) h
+    where
+      go : ((b : A) → (ran f b xs .no ≡ 0 → ⊥) → ran f b (xs ++ ys) ≡ ran f b xs) → (t : Step A) → (First c xs a t .no ≡ 0 → ⊥) → First c (xs ++ ys) a t ≡ First c xs a t
+      go ih (went b) k = ap more (ih b k)
+      go ih stopped k = refl
 
   -- what every step keeps, the batch keeps; and where each step raises its register, the registers are those fed what was taken
   pub ran-keeps : (k : ℕ) (Ok : A → Type 0) (reg : A → List ℕ)

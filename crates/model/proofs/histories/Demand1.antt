@@ -1,6 +1,6 @@
 -- Demand 1: each refusal exactly when its line of the table says. A line is a test that tells its question; the lines follow one another as
 -- the tests do. Assumes nothing.
-use mathlib.Core.Path.{_≡_, refl, sym, _∙_, subst, subst₂}
+use mathlib.Core.Path.{_≡_, refl, sym, ap, _∙_, subst, subst₂}
 use mathlib.Core.Bool.{Bool, true, false}
 use mathlib.Core.List.{List, [], _∷_}
 use Prim.Native.Nat.{ℕ, _^_, _≤_}
@@ -9,10 +9,9 @@ use lib.ListN.{length}
 use borrow.Author.Tests.{ne-eqb}
 use Rattle.model.specs.Pick.{pick, both, firstOf, Tells}
 use Rattle.model.specs.Packed.{Bytes}
-use Rattle.model.specs.Steps.{ran}
 use Rattle.model.specs.Sketch.{isKind, bytesOf, Shaped, Good}
 use Rattle.model.specs.Check.{goodOf, lgkNo, sizeNo, shapeNo, scratchFits, checkNo}
-use Rattle.model.specs.Calls.{Out, startOf, keptOut, stateOf, stepOf, feedOf, unpackOf, eightNo, viewOf, mergeNo, mergeOf, sumsOf}
+use Rattle.model.specs.Calls.{Out, startOf, keptOut, batchOf, feedOf, unpackOf, eightNo, viewOf, mergeNo, mergeOf, sumsOf}
 use Rattle.model.specs.Image.{imageIn, Written, writeNo, writeOf}
 use Rattle.model.specs.Claims.{Unless, Ok, ShapeLines, SketchLines, Scratch, FeedLine}
 use Rattle.model.specs.declared.Sketch.{Sketch}
@@ -22,7 +21,7 @@ use Rattle.model.proofs.order.Tells.{tells-both, tells-le, tells-eq, te
 use Rattle.model.proofs.order.Tests.{scratch-tells}
 use Rattle.model.proofs.calls.Ladder.{first-append, first-one, unless}
 use Rattle.model.proofs.order.Lawful.{lawful}
-use Rattle.model.proofs.calls.Has.{check-ok, ok-check, feed-has, feed-line, eight-says}
+use Rattle.model.proofs.calls.Has.{check-ok, ok-check, feed-is, batch-line, eight-says}
 
 tells-yes : Tells true (Unit {0})
 tells-yes = ((λ e. tt), λ e p. true-not-false refl e)
@@ -32,7 +31,7 @@ unfolding firstOf
 zero-is = refl
 
 -- a call's number is the first of its refusals and of what it answers when done
-call-no : {A : Type 0} (number : A → ℕ) (n : ℕ) (done back : A) → number back ≡ n → number (pick (eqb n 0) done back) ≡ firstOf (n ∷ number done ∷ [])
+pub call-no : {A : Type 0} (number : A → ℕ) (n : ℕ) (done back : A) → number back ≡ n → number (pick (eqb n 0) done back) ≡ firstOf (n ∷ number done ∷ [])
 unfolding firstOf
 call-no number n done back e = go (eqb n 0)
   where
@@ -50,7 +49,7 @@ shape-lines kind lgk len ns f =
     unless _ 2 ns (tells-eq len (bytesOf kind lgk)) (λ r.
     f (record { is-kind = tells-true _ (kind-tells kind) p; low = q .0; high = q .1; long = r })))))
 
-sketch-lines : {lent : Type 0} (b : Bool) → Tells b lent → (s : Sketch) (regs aux : List ℕ) → Bytes regs → {next : ℕ → Type 0} (ns : List ℕ) → (lent → Good s regs aux → next (firstOf ns))
+pub sketch-lines : {lent : Type 0} (b : Bool) → Tells b lent → (s : Sketch) (regs aux : List ℕ) → Bytes regs → {next : ℕ → Type 0} (ns : List ℕ) → (lent → Good s regs aux → next (firstOf ns))
     → SketchLines lent s regs aux next (firstOf (checkNo b s regs aux ∷ ns))
 unfolding checkNo
 sketch-lines b t s regs aux by ns f =
@@ -67,15 +66,15 @@ start-lines kind lgk regs aux =
 
 pub feed-lines : (s : Sketch) (regs aux scratch cs : List ℕ) → Bytes regs
     → SketchLines (Scratch (s .kind) aux scratch) s regs aux (FeedLine s regs aux cs (feedOf s regs aux scratch cs .count)) (feedOf s regs aux scratch cs .no)
-unfolding feedOf keptOut
+unfolding feedOf
 feed-lines s regs aux scratch cs by =
-    let r = ran (stepOf (s .kind) (s .«lg_k») (length aux)) (stateOf s regs aux) cs in
+    let o = batchOf s regs aux cs in
     let t = scratch-tells (s .kind) aux scratch in
     let n = checkNo (scratchFits (s .kind) (length aux) (length scratch)) s regs aux in
     subst (SketchLines (Scratch (s .kind) aux scratch) s regs aux (FeedLine s regs aux cs (feedOf s regs aux scratch cs .count))) (sym (call-no (λ (o : Out). o .no) n _ _ refl))
-    (sketch-lines _ t s regs aux by (r .no ∷ []) (λ l g.
-    let m = feed-has s regs aux scratch cs g (ok-check _ s regs aux (tells-true _ t l) g) in
-    subst₂ (FeedLine s regs aux cs) (sym (m .1)) (sym (first-one (r .no))) (feed-line s regs aux scratch cs g)))
+    (sketch-lines _ t s regs aux by (o .no ∷ []) (λ l g.
+    let e = feed-is s regs aux scratch cs (ok-check _ s regs aux (tells-true _ t l) g) in
+    subst₂ (FeedLine s regs aux cs) (sym (ap (λ (p : Out). p .count) e)) (sym (first-one (o .no))) (batch-line s regs aux cs g)))
 
 pub unpack-lines : (s : Sketch) (regs aux buf : List ℕ) → Bytes regs → SketchLines (length buf ≡ 2 ^ s .«lg_k») s regs aux Ok (unpackOf s regs aux buf .no)
 unfolding unpackOf

@@ -13,14 +13,15 @@ use Rattle.model.specs.Sketch.{recordOf, stored, tableIn, registers, Sha
 use Rattle.model.specs.Check.{goodOf, scratchFits, checkNo}
 use Rattle.model.specs.Calls.{Out, startOf}
 use Rattle.model.specs.Image.{imageIn, writeNo, writeOf}
-use Rattle.model.specs.Claims.{SameSet, SameAs, Demand3, freshlyFed, FeedLine}
+use Rattle.model.specs.Claims.{SameSet, SameAs, Demand3, freshlyFed, FeedLine, FedTaken}
 use Rattle.model.specs.declared.Sketch.{Sketch}
 use Rattle.model.proofs.packing.Lengths.{is-eight, bytes-eight}
 use Rattle.model.proofs.registers.Raising.{length-fed}
 use Rattle.model.proofs.registers.Largest.{fed-at, largest-same}
 use Rattle.model.proofs.order.Sound.{Has}
 use Rattle.model.proofs.calls.Ladder.{shape-says}
-use Rattle.model.proofs.calls.Has.{ok-check, start-has, feed-has, feed-line, registers-long}
+use Rattle.model.proofs.calls.Has.{ok-check, start-has, batch-line, feed-is, registers-long}
+use Rattle.model.proofs.calls.Standing.{feed-keeps}
 use Rattle.model.proofs.histories.Demands.{Each, Holding, holds-run}
 
 -- the image of a kind 8 sketch does not depend on the area
@@ -61,11 +62,13 @@ module _ (lgk : ℕ) (mem cs : List ℕ) (h : Shaped 8 lgk (length mem)) where
   unfolding scratchFits
   passed = ok-check _ (o .sketch) (o .regs) (o .aux) (rw (ne-eqb (o .sketch .kind) 4 (λ q. omega (arith, begun .same-kind)))) (begun .good)
 
+  fed-to : FedTaken (o .sketch) (o .regs) (o .aux) cs f
+  fed-to = feed-keeps (o .sketch) (o .regs) (o .aux) [] cs (begun .good)
+
   fresh-registers : registers (f .sketch) (f .regs) (f .aux) ≡ fed (2 ^ lgk) (replicate (2 ^ lgk) 0) cs
   fresh-registers =
-      let m = feed-has (o .sketch) (o .regs) (o .aux) [] cs (begun .good) passed in
-      let all : f .count ≡ length cs = m .1 ∙ took (feed-line (o .sketch) (o .regs) (o .aux) [] cs (begun .good)) in
-      m .2 .holds ∙ m .3
+      let all : f .count ≡ length cs = ap (λ (p : Out). p .count) (feed-is (o .sketch) (o .regs) (o .aux) [] cs passed) ∙ took (batch-line (o .sketch) (o .regs) (o .aux) cs (begun .good)) in
+      fed-to .holds
       ∙ ap (λ (l : List ℕ). fed (2 ^ o .sketch .«lg_k») (registers (o .sketch) (o .regs) (o .aux)) l) (ap (λ (n : ℕ). take n cs) all ∙ take-length cs)
       ∙ ap₂ (λ (n : ℕ) (l : List ℕ). fed (2 ^ n) l cs) (begun .same-size) (begun .holds)
     where
@@ -78,7 +81,6 @@ module _ (lgk : ℕ) (mem cs : List ℕ) (h : Shaped 8 lgk (length mem)) where
   same-as s regs aux got j k z same =
       let R = fed (2 ^ lgk) (replicate (2 ^ lgk) 0) cs in
       let e : registers s regs aux ≡ R = each-fed lgk (registers s regs aux) got cs (registers-long s regs aux (j .good) ∙ ap (λ (n : ℕ). 2 ^ n) z) (subst (λ (n : ℕ). Each n (registers s regs aux) got) z (j .each)) same in
-      let fed-to = feed-has (o .sketch) (o .regs) (o .aux) [] cs (begun .good) passed .2 in
       let k′ : f .sketch .kind ≡ 8 = fed-to .same-kind ∙ begun .same-kind in
       let z′ : f .sketch .«lg_k» ≡ lgk = fed-to .same-size ∙ begun .same-size in
       let g′ = fed-to .good in

@@ -1,7 +1,7 @@
 -- Demands 2 and 3 over any history: every sketch is in good order, and each register is the largest value of what has reached it.
--- Of the calls only `start-has`, `feed-has`, `merge-has` and `sent-again` are cited, and that a refused call changes nothing. Assumes nothing.
+-- Of the calls only `start-has`, `feed-keeps`, `feed-image-keeps`, `merge-has` and `sent-again` are cited, and that a refused call changes nothing. Assumes nothing.
 use mathlib.Core.Path.{_≡_, refl, sym, ap, _∙_, subst}
-use mathlib.Core.List.{List, [], _∷_, _++_, append-nil}
+use mathlib.Core.List.{List, [], _∷_, _++_}
 use mathlib.Core.Bool.{Bool, true, false}
 use Prim.Native.Nat.{ℕ, _^_, _<_}
 use lib.ListN.{length, getD, take, getD-replicate}
@@ -9,17 +9,17 @@ use lib.Dec.{eqb}
 use borrow.Author.Tests.{eqb-true}
 use Rattle.model.specs.Pick.{pick}
 use Rattle.model.specs.Registers.{largest}
-use Rattle.model.specs.Four.{State}
 use Rattle.model.specs.Sketch.{registers, Good}
-use Rattle.model.specs.Check.{shapeNo, scratchFits, checkNo}
-use Rattle.model.specs.Calls.{Out, startOf, feedOf, mergeNo, mergeOf}
-use Rattle.model.specs.History.{Place, none, here, World, Call, start, feed, merge, send, put, makes, feeds, merges, sends, step, after, run, Stands}
-use Rattle.model.specs.Claims.{Demand2}
+use Rattle.model.specs.Check.{shapeNo}
+use Rattle.model.specs.Calls.{Out, startOf, mergeNo, mergeOf}
+use Rattle.model.specs.Lists.{couponsIn}
+use Rattle.model.specs.History.{Place, none, here, World, Call, start, feed, feedImage, merge, send, put, makes, feeds, merges, sends, step, after, run, Stands}
+use Rattle.model.specs.Claims.{Keeps, FedTaken, Demand2}
 use Rattle.model.specs.declared.Sketch.{Sketch}
 use Rattle.model.proofs.calls.Picked.{picked}
 use Rattle.model.proofs.registers.Largest.{fed-at, joined-at, is-largest, largest-append}
-use Rattle.model.proofs.order.Sound.{Has}
-use Rattle.model.proofs.calls.Has.{start-has, feed-has, merge-says, merge-has, registers-long}
+use Rattle.model.proofs.calls.Has.{start-has, merge-says, merge-has, registers-long}
+use Rattle.model.proofs.calls.Standing.{keeps-has, feed-keeps, feed-image-keeps}
 use Rattle.model.proofs.image.Sending.{sent-again, sent-good}
 
 -- each register is the largest value of what has reached the sketch
@@ -34,9 +34,9 @@ abbrev pub Holds : Place → Type 0
 Holds none = Unit {0}
 Holds (here s regs aux got) = Holding s regs aux got
 
--- from what a call gives to what is kept
-hold : (kind lgk : ℕ) (a : State) (s : Sketch) (regs aux got : List ℕ) → Has kind lgk a s regs aux → Each lgk (a .regs) got → Holding s regs aux got
-hold kind lgk a s regs aux got h f = record {
+-- from what a call leaves to what is kept
+hold : (kind lgk : ℕ) (R : List ℕ) (s : Sketch) (regs aux got : List ℕ) → Keeps kind lgk R s regs aux → Each lgk R got → Holding s regs aux got
+hold kind lgk R s regs aux got h f = record {
   good = h .good;
   each = subst (λ (n : ℕ). Each n (registers s regs aux) got) (sym (h .same-size)) (λ i q. ap (λ (l : List ℕ). getD l i 0) (h .holds) ∙ f i q);
 }
@@ -48,28 +48,21 @@ holds-start kind lgk regs aux p h = go (eqb (shapeNo kind lgk (length regs)) 0) 
     go : (b : Bool) → eqb (shapeNo kind lgk (length regs)) 0 ≡ b → Holds (makes (startOf kind lgk regs aux) [] p)
     go true q =
         let m = start-has kind lgk regs aux (eqb-true (shapeNo kind lgk (length regs)) 0 q) in
-        rw (m .0) (hold kind lgk _ _ _ _ [] (m .1) (λ i r. getD-replicate (2 ^ lgk) i 0 0 r))
+        rw (m .0) (hold kind lgk _ _ _ _ [] (keeps-has (m .1) refl) (λ i r. getD-replicate (2 ^ lgk) i 0 0 r))
     go false q = rw (q, q) h
 
 abbrev fedTo : Out → List ℕ → List ℕ → Place
 fedTo o got cs = here (o .sketch) (o .regs) (o .aux) (got ++ take (o .count) cs)
 
-holds-fed : (s : Sketch) (regs aux scratch got cs : List ℕ) → Holding s regs aux got → Holds (fedTo (feedOf s regs aux scratch cs) got cs)
-unfolding feedOf
-holds-fed s regs aux scratch got cs h = go (eqb (checkNo (scratchFits (s .kind) (length aux) (length scratch)) s regs aux) 0) refl
-  where
-    go : (b : Bool) → eqb (checkNo (scratchFits (s .kind) (length aux) (length scratch)) s regs aux) 0 ≡ b → Holds (fedTo (feedOf s regs aux scratch cs) got cs)
-    go true q =
-        let m = feed-has s regs aux scratch cs (h .good) (eqb-true (checkNo (scratchFits (s .kind) (length aux) (length scratch)) s regs aux) 0 q) in
-        hold _ _ _ _ _ _ _ (m .2)
-        (λ i r. ap (λ (l : List ℕ). getD l i 0) (m .3)
-        ∙ fed-at (2 ^ s .«lg_k») (registers s regs aux) (take (feedOf s regs aux scratch cs .count) cs) i (rw (registers-long s regs aux (h .good)) r) ∙ rw (h .each i r, largest-append))
-    go false q = rw (q, append-nil) h
+holds-fed : (o : Out) (s : Sketch) (regs aux got cs : List ℕ) → FedTaken s regs aux cs o → Holding s regs aux got → Holds (fedTo o got cs)
+holds-fed o s regs aux got cs t h =
+    hold _ _ _ _ _ _ _ t (λ i r. fed-at (2 ^ s .«lg_k») (registers s regs aux) (take (o .count) cs) i (rw (registers-long s regs aux (h .good)) r) ∙ rw (h .each i r, largest-append))
 
-holds-feed : (p : Place) (scratch cs : List ℕ) → Holds p → Holds (feeds p scratch cs)
+-- a call that feeds: all that it owes is that the sketch was fed what was taken
+holds-feed : (call : Sketch → List ℕ → List ℕ → Out) (cs : List ℕ) → ((s : Sketch) (regs aux : List ℕ) → Good s regs aux → FedTaken s regs aux cs (call s regs aux)) → (p : Place) → Holds p → Holds (feeds call cs p)
 unfolding feeds
-holds-feed none scratch cs h = h
-holds-feed (here s regs aux got) scratch cs h = holds-fed s regs aux scratch got cs h
+holds-feed call cs t none h = h
+holds-feed call cs t (here s regs aux got) h = holds-fed (call s regs aux) s regs aux got cs (t s regs aux (h .good)) h
 
 abbrev pub mergedTo : Out → List ℕ → List ℕ → List ℕ → Place
 mergedTo o taux got more = here (o .sketch) (o .regs) taux (pick (eqb (o .no) 0) (got ++ more) got)
@@ -84,7 +77,7 @@ holds-merged t tregs taux got s sregs saux more h j = go (eqb (mergeNo t tregs s
         let e = eqb-true (mergeNo t tregs s sregs saux) 0 q in
         let m = merge-has t tregs taux s sregs saux (h .good) (j .good) e in
         rw (m .0)
-        (hold 8 (t .«lg_k») _ _ _ _ _ (m .1)
+        (hold 8 (t .«lg_k») _ _ _ _ _ (keeps-has (m .1) refl)
         (λ i r. joined-at (t .«lg_k») (s .«lg_k») (registers t tregs taux) (registers s sregs saux) got more i (rw (registers-long t tregs taux (h .good)) r)
         (merge-says t tregs s sregs saux .0 e .1 .1) (registers-long s sregs saux (j .good)) (h .each i r) (j .each)))
     go false q = rw (q, q) h
@@ -113,7 +106,8 @@ holds-put w n p h k i = go (eqb i n)
 holds-step : (w : World) (c : Call) → ((i : ℕ) → Holds (w i)) → (i : ℕ) → Holds (step w c i)
 unfolding step
 holds-step w (start n kind lgk regs aux) h = holds-put w n _ h (holds-start kind lgk regs aux (w n) (h n))
-holds-step w (feed n scratch cs) h = holds-put w n _ h (holds-feed (w n) scratch cs (h n))
+holds-step w (feed n scratch cs) h = holds-put w n _ h (holds-feed _ cs (λ s regs aux. feed-keeps s regs aux scratch cs) (w n) (h n))
+holds-step w (feedImage n scratch l) h = holds-put w n _ h (holds-feed _ (couponsIn l) (λ s regs aux. feed-image-keeps s regs aux scratch l) (w n) (h n))
 holds-step w (merge n m) h = holds-put w n _ h (holds-merge (w n) (w m) (h n) (h m))
 holds-step w (send n m buf regs aux scratch) h = holds-put w m _ h (holds-send (w n) (w m) buf regs aux scratch (h n) (h m))
 

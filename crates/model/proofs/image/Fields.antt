@@ -31,7 +31,7 @@ number-append c [] ys = rw pow-zero (omega arith)
 number-append c (x ∷ xs) ys = rw (number-append c xs ys, pow-suc) (omega arith)
 
 -- behind as many bytes as s cells take
-slot-behind : (w s i : ℕ) (xs ys : List ℕ) → Bytes xs → 8 * length xs ≡ w * s → slotAt w (xs ++ ys) (s + i) ≡ slotAt w ys i
+pub slot-behind : (w s i : ℕ) (xs ys : List ℕ) → Bytes xs → 8 * length xs ≡ w * s → slotAt w (xs ++ ys) (s + i) ≡ slotAt w ys i
 unfolding slotAt
 slot-behind w s i xs ys b e =
     ap (λ (x : ℕ). number 256 (xs ++ ys) / 2 ^ x % 2 ^ w) (let z : w * (s + i) ≡ 8 * length xs + w * i = omega arith in z)

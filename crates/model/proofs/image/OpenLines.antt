@@ -3,22 +3,21 @@ use mathlib.Core.Path.{_≡_, refl, sym, _∙_, ap, subst}
 use mathlib.Core.Bool.{Bool, true, false}
 use mathlib.Core.List.{List, [], _∷_}
 use mathlib.Core.Logic.{_⊎_, inl, inr}
-use Prim.Native.Nat.{ℕ, suc, _+_, _*_, _^_}
-use native.Mathlib.Omega.{arith}
+use Prim.Native.Nat.{ℕ, _+_, _*_, _^_}
 use lib.Dec.{eqb, leb}
 use lib.ListN.{length, getD}
-use borrow.Author.Tests.{eqb-true, eqb-false, eq-eqb, ne-eqb}
+use borrow.Author.Tests.{eqb-true, eqb-false, eq-eqb}
 use Rattle.model.specs.Pick.{pick, both, firstOf, Tells}
 use Rattle.model.specs.Table.{baseFor, tableSize}
 use Rattle.model.specs.Sketch.{isKind, bytesOf, cells}
 use Rattle.model.specs.Check.{countsFit, valuesFit, spareFits, tallyFits, lgkNo, sizeNo, scratchFits}
 use Rattle.model.specs.Image.{kindOf, sketchIn, regsIn, compactIn, wordCount, wordsIn, auxIn, placeIn, saidIn, headerNo, formNo, memoryNo, lgArrFits, countsNo, roomNo, bodyNo, openNo, openOf}
-use Rattle.model.specs.Answers.{Said, said, placed}
+use Rattle.model.specs.Answers.{Said, said}
 use Rattle.model.specs.Calls.{Out}
-use Rattle.model.specs.Claims.{Unless, refused, passed, Only, AuxLines, OpenLines}
+use Rattle.model.specs.Claims.{Only, AuxLines, OpenLines}
 use Rattle.model.proofs.table.FirstLaws.{true-not-false}
 use Rattle.model.proofs.order.Tells.{tells-as, tells-both, tells-le, tells-eq}
-use Rattle.model.proofs.calls.Ladder.{first-tail, first-inside, first-one}
+use Rattle.model.proofs.calls.Ladder.{plain, first-tail, first-inside, first-one}
 use Rattle.model.proofs.image.Opens.{lg-arr-tells}
 use Rattle.model.proofs.order.Tests.{cells-long, counts-tells, cur-min-most, values-tells, spare-tells, tally-tells, scratch-tells}
 use Rattle.model.proofs.calls.Picked.{picked}
@@ -76,13 +75,6 @@ none-said : (l : List ℕ) → saidIn l (firstOf []) ≡ said 0 0
 unfolding firstOf placeIn
 none-said l = refl
 
--- a line that names no place decides, or hands on with what it asked
-plain : (l : List ℕ) {Q : Type 0} {next : Said → Type 0} (b : Bool) (n : ℕ) (ns : List ℕ) → placed (suc n) ≡ false → Tells b Q → (Q → next (saidIn l (firstOf ns)))
-    → Unless (said (suc n) 0) Q next (saidIn l (firstOf (pick b 0 (suc n) ∷ ns)))
-unfolding firstOf placeIn
-plain l true n ns z t f = passed (t .0 refl) (f (t .0 refl))
-plain l false n ns z t f = refused (t .1 refl) (rw (ne-eqb (suc n) 0 (λ e. omega arith), z))
-
 -- the exception words decide, and name their place, or hand on
 aux-decide : (l : List ℕ) (ns : List ℕ) {next : Said → Type 0} → next (saidIn l (firstOf ns))
     → Only (sketchIn l .kind ≡ 4) (AuxLines (compactIn l) (2 ^ sketchIn l .«lg_k») (sketchIn l .«cur_min») (sketchIn l .«aux_count») (wordsIn l) (cells (sketchIn l) (regsIn l)) next) next (saidIn l (firstOf (auxIn l .no ∷ ns)))
@@ -97,22 +89,22 @@ aux-decide l ns {next} f =
     is h = sym (aux-in l (halt (auxIn l .no) ns refl h) h)
 
 pub open-lines : (l regs aux scratch : List ℕ) → let o = openOf l regs aux scratch in OpenLines l regs aux scratch (said (o .no) (o .place))
-unfolding lgkNo sizeNo sketchIn
+unfolding lgkNo sizeNo sketchIn placeIn
 open-lines l regs aux scratch =
     let s = sketchIn l in
     let k = 2 ^ s .«lg_k» in
     subst (OpenLines l regs aux scratch) (sym (open-said l regs aux scratch ∙ ap (saidIn l) (open-rungs l regs aux scratch)))
-    (plain l _ 6 _ refl (tells-le 40 (length l)) (λ p.
-    plain l _ 7 _ refl (tells-both _ _ (tells-eq (getD l 0 0) 10) (tells-both _ _ (tells-eq (getD l 1 0) 1) (tells-eq (getD l 2 0) 7))) (λ p.
-    plain l _ 8 _ refl (mode-tells (getD l 7 0)) (λ p.
-    plain l _ 1 _ refl (tells-both _ _ (tells-le 4 (s .«lg_k»)) (tells-le (s .«lg_k») 21)) (λ p.
-    plain l _ 2 _ refl (tells-eq (length regs) (bytesOf (s .kind) (s .«lg_k»))) (λ p.
-    plain l _ 2 _ refl (scratch-tells (s .kind) aux scratch) (λ p.
-    plain l _ 9 _ refl (tells-as _ (λ c. (c .num, (c .count, (cur-min-most s c, c .none)))) (λ q. record { num = q .0; count = q .1 .0; low = λ e. q .1 .1 .0; none = q .1 .1 .1 }) (counts-tells s)) (λ p.
-    plain l _ 10 _ refl (lg-arr-tells l) (λ p.
-    plain l _ 6 _ refl (tells-le (40 + bytesOf (s .kind) (s .«lg_k») + 4 * wordCount l) (length l)) (λ p.
-    plain l _ 5 _ refl (tells-le (tableSize (baseFor (s .«lg_k»)) (s .«aux_count»)) (length aux)) (λ p.
-    plain l _ 11 _ refl (rw (cells-long s (regsIn l)) at (values-tells s (regsIn l))) (λ p.
+    (plain (placeIn l) _ 6 _ refl (tells-le 40 (length l)) (λ p.
+    plain (placeIn l) _ 7 _ refl (tells-both _ _ (tells-eq (getD l 0 0) 10) (tells-both _ _ (tells-eq (getD l 1 0) 1) (tells-eq (getD l 2 0) 7))) (λ p.
+    plain (placeIn l) _ 8 _ refl (mode-tells (getD l 7 0)) (λ p.
+    plain (placeIn l) _ 1 _ refl (tells-both _ _ (tells-le 4 (s .«lg_k»)) (tells-le (s .«lg_k») 21)) (λ p.
+    plain (placeIn l) _ 2 _ refl (tells-eq (length regs) (bytesOf (s .kind) (s .«lg_k»))) (λ p.
+    plain (placeIn l) _ 2 _ refl (scratch-tells (s .kind) aux scratch) (λ p.
+    plain (placeIn l) _ 9 _ refl (tells-as _ (λ c. (c .num, (c .count, (cur-min-most s c, c .none)))) (λ q. record { num = q .0; count = q .1 .0; low = λ e. q .1 .1 .0; none = q .1 .1 .1 }) (counts-tells s)) (λ p.
+    plain (placeIn l) _ 10 _ refl (lg-arr-tells l) (λ p.
+    plain (placeIn l) _ 6 _ refl (tells-le (40 + bytesOf (s .kind) (s .«lg_k») + 4 * wordCount l) (length l)) (λ p.
+    plain (placeIn l) _ 5 _ refl (tells-le (tableSize (baseFor (s .«lg_k»)) (s .«aux_count»)) (length aux)) (λ p.
+    plain (placeIn l) _ 11 _ refl (rw (cells-long s (regsIn l)) at (values-tells s (regsIn l))) (λ p.
     aux-decide l _
-    (plain l _ 13 _ refl (spare-tells s (regsIn l)) (λ p.
-    plain l _ 14 [] refl (tally-tells s (regsIn l)) (λ p. none-said l)))))))))))))))
+    (plain (placeIn l) _ 13 _ refl (spare-tells s (regsIn l)) (λ p.
+    plain (placeIn l) _ 14 [] refl (tally-tells s (regsIn l)) (λ p. none-said l)))))))))))))))

@@ -68,6 +68,12 @@ returns-20 c = sym (ap numberOf (c .enum-told20 .given .1))
 returns-21 : tie.Need-returns-21
 returns-21 c = sym (ap numberOf (c .enum-told21 .given .1))
 
+returns-22 : tie.Need-returns-22
+returns-22 c = sym (ap numberOf (c .enum-told22 .given .1))
+
+returns-23 : tie.Need-returns-23
+returns-23 c = sym (ap numberOf (c .enum-told23 .given .1))
+
 pub number-spec : {M : Type 1} → statement M
 number-spec =
     tie.close
@@ -76,5 +82,5 @@ number-spec =
     (λ enum-told-9. search needs) (λ enum-told-10. search needs) (λ enum-told-11. search needs) (λ enum-told-12. search needs)
     (λ enum-told-13. search needs) (λ enum-told-14. search needs) (λ enum-told-15. search needs) (λ enum-told-16. search needs)
     (λ enum-told-17. search needs) (λ enum-told-18. search needs) (λ enum-told-19. search needs) (λ enum-told-20. search needs)
-    (λ enum-told-21. search needs) returns returns-2 returns-3 returns-4 returns-5 returns-6 returns-7 returns-8 returns-9 returns-10 returns-11
-    returns-12 returns-13 returns-14 returns-15 returns-16 returns-17 returns-18 returns-19 returns-20 returns-21)
+    (λ enum-told-21. search needs) (λ enum-told-22. search needs) (λ enum-told-23. search needs) returns returns-2 returns-3 returns-4 returns-5 returns-6 returns-7 returns-8 returns-9 returns-10 returns-11
+    returns-12 returns-13 returns-14 returns-15 returns-16 returns-17 returns-18 returns-19 returns-20 returns-21 returns-22 returns-23)

@@ -1,5 +1,6 @@
 -- The exception area: a table at its front, and zeros behind it. Assumes nothing.
 use mathlib.Core.Path.{_≡_, refl, sym, _∙_, ap, ap₂}
+use mathlib.Core.Bool.{Bool, true, false}
 use mathlib.Core.List.{List, [], _∷_, _++_}
 use Prim.Native.Nat.{ℕ, suc, _-_, _≤_}
 use native.Mathlib.Omega.{arith}
@@ -7,9 +8,10 @@ use native.Mathlib.Decide.{ℕ-discrete}
 use lib.Dec.{eqb}
 use lib.ListN.{length, take, drop, replicate, length-append, length-replicate, length-drop, take-append-drop}
 use lib.Seq.{length-take-le, drop-at}
-use borrow.Author.Tests.{eq-eqb, ne-eqb}
+use borrow.Author.Tests.{eqb-true, eq-eqb, ne-eqb}
 use Rattle.model.specs.Pick.{pick}
 use Rattle.model.specs.Table.{used, laid}
+use Rattle.model.specs.Sketch.{areaOf}
 use Rattle.model.proofs.table.Refill.{used-zeros}
 
 pub length-laid : (room : ℕ) (t : List ℕ) → length t ≤ room → length (laid room t) ≡ room
@@ -36,3 +38,21 @@ unfolding laid
 laid-front n aux h z =
     sym (take-append-drop n aux)
     ∙ ap (λ (l : List ℕ). take n aux ++ l) (used-none (drop n aux) z ∙ ap (λ (m : ℕ). replicate m 0) (length-drop n aux ∙ ap (λ (m : ℕ). length aux - m) (sym (length-take-le n aux h))))
+
+-- an area keeps its length, and of two tables laid there the second stands
+pub length-area : (kind : ℕ) (t aux : List ℕ) → (kind ≡ 4 → length t ≤ length aux) → length (areaOf kind t aux) ≡ length aux
+unfolding areaOf
+length-area kind t aux h = go (eqb kind 4) refl
+  where
+    go : (b : Bool) → eqb kind 4 ≡ b → length (pick b (laid (length aux) t) aux) ≡ length aux
+    go true q = length-laid (length aux) t (h (eqb-true kind 4 q))
+    go false q = refl
+
+pub area-again : (kind : ℕ) (t u aux : List ℕ) → length (areaOf kind u aux) ≡ length aux → areaOf kind t (areaOf kind u aux) ≡ areaOf kind t aux
+unfolding areaOf
+area-again kind t u aux = go (eqb kind 4)
+  where
+    go : (b : Bool) → length (pick b (laid (length aux) u) aux) ≡ length aux
+        → pick b (laid (length (pick b (laid (length aux) u) aux)) t) (pick b (laid (length aux) u) aux) ≡ pick b (laid (length aux) t) aux
+    go true e = ap (λ (n : ℕ). laid n t) e
+    go false e = refl

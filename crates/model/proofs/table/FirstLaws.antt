@@ -61,3 +61,11 @@ first-is p f n l t b = go (decLt (first p f) n)
     go : Dec (first p f < n) → first p f ≡ n
     go (yes k) = absurd (true-not-false (first-holds p f (lt-of-lt-of-le k (le-of-lt l))) (b (first p f) k))
     go (no k) = omega (arith, up)
+
+-- and where it passes at none, there is no first
+pub first-last : (p : ℕ → Bool) (f : ℕ) → ((m : ℕ) → m < f → p m ≡ false) → first p f ≡ f
+first-last p f h = go (decLt (first p f) f)
+  where
+    go : Dec (first p f < f) → first p f ≡ f
+    go (yes l) = absurd (true-not-false (first-holds p f l) (h (first p f) l))
+    go (no l) = omega (arith, first-le p f)

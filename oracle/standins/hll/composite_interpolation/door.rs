@@ -7,8 +7,10 @@ use crate::hll::array4::Array4;
 use crate::hll::array6::Array6;
 use crate::hll::array8::Array8;
 use crate::hll::aux_map::AuxMap;
+use crate::hll::container::Container;
 use crate::hll::mode::Mode;
 use crate::hll::{Coupon, HllSketch};
+use crate::lists::Layout;
 use crate::{Door, Names};
 
 impl Names for Door {
@@ -51,9 +53,32 @@ impl Door {
         true
     }
 
+    /// A list or a set: which, the count it keeps, and its coupons in the order it writes them; none if it holds registers.
+    pub fn coupons(sketch: &HllSketch) -> Option<(Layout, usize, Vec<u32>)> {
+        let (layout, container) = Self::few(sketch)?;
+        Some((layout, container.len(), container.iter().map(Coupon::raw).collect()))
+    }
+
+    fn few(sketch: &HllSketch) -> Option<(Layout, &Container)> {
+        match sketch.mode() {
+            Mode::List { list, .. } => Some((Layout::List, list.container())),
+            Mode::Set { set, .. } => Some((Layout::Set, set.container())),
+            Mode::Array4(_) | Mode::Array6(_) | Mode::Array8(_) => None,
+        }
+    }
+
     /// Each coupon by the kind's own `update`. `update_with_coupon` would look for the kind at every one.
     pub fn feed(sketch: &mut HllSketch, coupons: &[u32]) {
-        let coupons = coupons.iter().map(|word| Coupon(*word));
+        Self::each(sketch, coupons.iter().map(|word| Coupon(*word)));
+    }
+
+    /// The same of the coupons of a list or a set, as `union.rs` takes them one by one; of registers none.
+    pub fn feed_few(sketch: &mut HllSketch, few: &HllSketch) {
+        let coupons = Self::few(few).into_iter().flat_map(|(_, container)| container.iter());
+        Self::each(sketch, coupons);
+    }
+
+    fn each(sketch: &mut HllSketch, coupons: impl Iterator<Item = Coupon>) {
         match sketch.mode_mut() {
             Mode::Array4(array) => coupons.for_each(|coupon| array.update(coupon)),
             Mode::Array6(array) => coupons.for_each(|coupon| array.update(coupon)),

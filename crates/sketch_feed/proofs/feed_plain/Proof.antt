@@ -1,11 +1,11 @@
--- `sketch::feed_plain` meets its contract: each kind's own feed. Assumes nothing.
+-- `sketch_feed::feed_plain` meets its contract: each kind's own feed. Assumes nothing.
 use Rattle.array8.proofs.Eight.{eight-ready}
 use Rattle.array6.proofs.Six.{six-ready}
 use Rattle.sketch_check.proofs.ByKind.{kind-as}
-use Rattle.sketch.proofs.PlainKept.{fed-8, is-6, fed-6}
+use Rattle.sketch_feed.proofs.PlainKept.{fed-8, is-6, fed-6}
 use borrow.Author.Needs.{needs}
-use Rattle.sketch.proofs.feed_plain.Statement.{statement}
-use Rattle.sketch.proofs.feed_plain.Tie as tie
+use Rattle.sketch_feed.proofs.feed_plain.Statement.{statement}
+use Rattle.sketch_feed.proofs.feed_plain.Tie as tie
 
 feed-requires : tie.Need-feed-requires
 feed-requires c κs =

@@ -1,4 +1,4 @@
--- What the calls and their parts give.
+-- What feeding a kind leaves.
 use mathlib.Core.Path.{_≡_}
 use mathlib.Core.List.{List}
 use Prim.Native.Nat.{ℕ}

@@ -19,8 +19,8 @@ use Rattle.model.proofs.order.Lawful.{lawful}
 use Rattle.array8.specs.Given.{Fed}
 use Rattle.array6.specs.Given.{Fed6}
 use Rattle.sketch_check.proofs.ByKind.{reads-6, eight-long}
-use Rattle.sketch.specs.Asked.{Plain}
-use Rattle.sketch.specs.Given.{KeptAs}
+use Rattle.sketch_feed.specs.Asked.{Plain}
+use Rattle.sketch_feed.specs.Given.{KeptAs}
 
 -- kind 8 keeps the registers themselves
 pub eight-kept : (lgk zeros : ℕ) (R : List ℕ) → Small R → length R ≡ 2 ^ lgk → zeros ≡ countOf 0 R → KeptAs 8 lgk R (sketchOf 8 lgk 0 zeros 0) R

@@ -1,0 +1,2 @@
+pub mod PlainKept
+pub mod Batch
