@@ -188,6 +188,10 @@ int main(void)
     put(words + 4, coupon(1, 14));
     expect(open_image(image, len) == LP_AUX_LOW && place == 1, "a value below it in word 1");
     put(words + 4, coupon(1, 0));
+    expect(open_image(image, len) == LP_AUX_LOW && place == 1, "no value in word 1, which has a slot");
+    put(words + 4, coupon(K, 0));
+    expect(open_image(image, len) == LP_AUX_TWICE && place == 1, "no value in word 1, whose slot is word 0's");
+    put(words + 4, 0);
     expect(open_image(image, len) == LP_AUX_EMPTY && place == 1, "an empty word 1");
     put(words + 4, coupon(1, 20));
     put(words + 8, coupon(1 + K, 20));
@@ -207,6 +211,9 @@ int main(void)
         put(words + 4 * i, i < 5 ? 0 : coupon((uint32_t)i - 5, 20));
     len = 40 + sizeof regs + 32;
     expect(open_image(image, len) == LP_OK && place == 0, "words 5 to 7 of the second form");
+    put(words + 16, coupon(3, 0));
+    expect(open_image(image, len) == LP_AUX_LOW && place == 4, "no value in word 4, which has a slot");
+    put(words + 16, 0);
     image[36] = 2;
     expect(open_image(image, len) == LP_AUX_COUNT && place == 0, "three words and a count of two");
     put(words + 28, coupon(1, 20));

@@ -37,9 +37,10 @@ enum {
     LP_SPARE = 14,
     LP_TALLY = 15,
     LP_OUT = 16,
-    /* What is wrong with an image's exception words, and what lp_open's *place says of it. Positions are counted from 0, with the empty
-     * words that an image without the compact flag may have. The earliest wrong word is told; for one word, the first of these. */
-    LP_AUX_EMPTY = 21, /* a word of a compact image is empty: its position */
+    /* What is wrong with an image's exception words, and what lp_open's *place says of it. Positions are counted from 0, with the zero
+     * words that an image without the compact flag may have. The earliest wrong word is told; for one word, the first of these. A word with
+     * a slot and no value is not empty: it is LP_AUX_TWICE or LP_AUX_LOW in every image. */
+    LP_AUX_EMPTY = 21, /* a word of a compact image is zero: its position */
     LP_AUX_TWICE = 22, /* a word's slot is that of an earlier word: its position */
     LP_AUX_LOW = 23,   /* a word's value is below cur_min + 15: its position */
     LP_AUX_COUNT = 24, /* no word is wrong, but there are more or fewer than the image's count: 0 */

@@ -1,5 +1,6 @@
-//! What document 02 (CR 1) says is wrong with the exception words of a kind 4 image: entry by entry
-//! in the order listed, then their number, then their slots beside the nibbles of 15.
+//! What document 02 (CR 1, CR 3) says is wrong with the exception words of a kind 4 image: entry by entry
+//! in the order listed, then their number, then their slots beside the nibbles of 15. Every word but the
+//! zero word is an entry, one with a slot and no value too.
 
 use crate::model::{listed, number, packed, slot, value};
 use std::collections::HashSet;
@@ -17,7 +18,7 @@ pub fn aux_fault(image: &[u8]) -> Option<(u8, u32)> {
     let (k, compact, cur_min) = (1 << image[3], image[5] & 8 != 0, image[6]);
     let mut slots = HashSet::new();
     for (at, word) in (0..).zip(listed(image)) {
-        if value(word) == 0 {
+        if word == 0 {
             if compact {
                 return Some((AUX_EMPTY, at));
             }

@@ -1,7 +1,9 @@
 //! The examples, and a few of lists and sets, as a file of the crate `model_cases`, whose claim the proof
-//! checker computes: what the Rust answers, beside what it was asked. Lists of numbers are written as one number in hex,
+//! checker computes: what the Rust answers, beside what it was asked; and the cases of exception words with a slot and no value,
+//! whose numbers and places were worked out by hand. Lists of numbers are written as one number in hex,
 //! lowest digit first, since the checker reads a long numeral faster than a long list.
 
+use crate::aux_cases;
 use crate::examples::{self, Random, coupons, few, history};
 use crate::request::Request;
 use crate::{Answer, Recipe, State, run};
@@ -18,8 +20,12 @@ pub fn book(n: u64, seed: u64) -> String {
         .filter_map(|request| case(&request))
         .chain((0..n / SHARE).map(|i| fed_image(random, i as usize)))
         .collect();
+    let answered: Vec<String> = aux_cases::valueless()
+        .iter()
+        .map(|(_, image, (no, place))| format!("answered {no} {place} {}", bytes(image)))
+        .collect();
     let mut text = String::from(HEAD);
-    for (i, chunk) in cases.chunks(CHUNK).enumerate() {
+    for (i, chunk) in cases.chunks(CHUNK).chain(answered.chunks(CHUNK)).enumerate() {
         text += &format!(
             "\nunfoldable pub cases{i} : List Case\ncases{i} =\n    {}\n    ∷ []\n",
             chunk.join("\n    ∷ ")
@@ -43,9 +49,9 @@ fn fed_image(random: &mut Random, i: usize) -> String {
 }
 
 const HEAD: &str = "\
--- Made by `oracle book`: requests, and what the Rust answers to them. `oracle/test` makes it again and compares.
+-- Made by `oracle book`: requests, and what the Rust answers to them; then images with the number and place of document 02, worked out by hand. `oracle/test` makes it again and compares.
 use mathlib.Core.List.{List, [], _∷_}
-use Rattle.model_cases.specs.Play.{Case, history, merged, opened, refused, fed, source, words, bytes}
+use Rattle.model_cases.specs.Play.{Case, history, merged, opened, refused, fed, answered, source, words, bytes}
 ";
 
 fn case(request: &Request) -> Option<String> {

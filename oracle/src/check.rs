@@ -1,12 +1,13 @@
 //! The Rust against the model of document 01, over random histories: registers, record,
 //! exception table and image after each; the image opened in three forms and fed on; merges;
-//! and images damaged at random, which the Rust may open only where document 01 is stricter.
+//! and images damaged at random: what the documents open the Rust opens, alike.
 //! Lists and sets are compared in `list_check.rs`.
 
 use crate::damage;
 use crate::examples::{Random, coupons, listed, spread};
 use crate::list_check;
-use crate::model::{Model, lists_valueless, refusal};
+use crate::model::{Model, said};
+use crate::valueless::Valueless;
 use crate::{Answer, Recipe, State, hex, merge, run, union};
 use std::collections::BTreeMap;
 use std::fmt;
@@ -59,9 +60,10 @@ pub fn check(n: u64, seed: u64) -> Result<String, String> {
 
         let (list, second) = (listed(random, &state.image), spread(random, &state.image));
         for image in [state.image, list, second] {
-            damaged.compare(&damage::anywhere(random, &image))?;
+            damaged.compare(&image, &damage::anywhere(random, &image))?;
             if kind == 4 {
-                damaged.compare(&damage::exceptions(random, &image))?;
+                damaged.compare(&image, &damage::exceptions(random, &image))?;
+                damaged.compare(&image, &damage::valueless(random, &image))?;
             }
             let mut model = Model::open(&image);
             let opened = Recipe::Open { image: image.clone(), coupons: Vec::new() };
@@ -108,17 +110,21 @@ pub fn check(n: u64, seed: u64) -> Result<String, String> {
 struct Damaged {
     opened: u32,
     refused: u32,
-    /// Refused by document 01 alone, for each of its numbers.
+    /// Refused by the documents alone, for each of their numbers.
     stricter: BTreeMap<u8, u32>,
-    /// Refused by the Rust alone.
-    looser: u32,
+    valueless: Valueless,
 }
 
 impl Damaged {
-    fn compare(&mut self, image: &[u8]) -> Result<(), String> {
+    /// A good image, and what damage made of it.
+    fn compare(&mut self, good: &[u8], image: &[u8]) -> Result<(), String> {
+        if image == good {
+            return Ok(());
+        }
         let answer = run(&Recipe::Open { image: image.to_vec(), coupons: Vec::new() });
-        match (refusal(image), answer) {
-            (0, Answer::Error(_)) if lists_valueless(image) => self.looser += 1,
+        let said = said(image);
+        self.valueless.add(image, said).map_err(|fault| format!("{}: {fault}", hex(image)))?;
+        match (said.0, answer) {
             (0, answer) => {
                 compare(answer, &Model::open(image), Since::Open)
                     .map_err(|fault| format!("{}: {fault}", hex(image)))?;
@@ -133,14 +139,15 @@ impl Damaged {
 
 impl fmt::Display for Damaged {
     fn fmt(&self, f: &mut fmt::Formatter<'_>) -> fmt::Result {
-        let Damaged { opened, refused, stricter, looser } = self;
+        let Damaged { opened, refused, stricter, valueless } = self;
+        let alone = stricter.values().sum::<u32>();
         let only: Vec<String> =
             stricter.iter().map(|(no, times)| format!("{no}: {times}")).collect();
         write!(
             f,
-            "damaged images: {opened} opened by both and alike, {refused} refused by both, \
-             {} by document 01 alone ({}), {looser} by the Rust alone, each for a word without value",
-            stricter.values().sum::<u32>(),
+            "{} damaged images: all that the documents open the Rust opens, alike: {opened}; {refused} refused by both, \
+             {alone} by the documents alone ({})\nof these {valueless}",
+            opened + refused + alone,
             only.join(", ")
         )
     }

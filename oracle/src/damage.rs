@@ -66,6 +66,32 @@ pub fn exceptions(random: &mut Random, image: &[u8]) -> Vec<u8> {
     image
 }
 
+/// One or two exception words of kind 4 with a slot and no value, or zero beside that; at times something of `exceptions` before it.
+pub fn valueless(random: &mut Random, image: &[u8]) -> Vec<u8> {
+    let start = 40 + (1 << image[3] >> 1);
+    if image[7] != 2 || image.len() < start + 4 {
+        return exceptions(random, image);
+    }
+    let mut image = if random.below(3) == 0 { exceptions(random, image) } else { image.to_vec() };
+    let (k, words) = (1u32 << image[3], (image.len() - start) as u32 / 4);
+    for _ in 0..1 + random.below(2) {
+        let [at, other] = [0; 2].map(|_| start + 4 * random.below(words) as usize);
+        let [own, other] = [at, other].map(|at| number(&image, at) % (1 << 26));
+        let word = match random.below(8) {
+            0 => 0,
+            // Slot 0, by the least number that is not the zero word's.
+            1 => k,
+            2 | 3 => own,
+            // Another word's slot, by its own number or by one that is the same modulo k.
+            4 | 5 => random.coupon(k, other % k, 0),
+            6 => random.below(k),
+            _ => random.below(1 << 26),
+        };
+        image[at..at + 4].copy_from_slice(&word.to_le_bytes());
+    }
+    image
+}
+
 /// One to three changes of a list or a set: a byte, mostly of its head; a word that is zero, of no value or there already; bytes behind
 /// the end. At times the end cut.
 pub fn coupons(random: &mut Random, image: &[u8]) -> Vec<u8> {

@@ -71,8 +71,6 @@ pub fn good() -> Vec<(&'static str, Vec<u8>)> {
         ("aux-second", second(&aux, 3, &[0, d, 0, b + 16, 0, a, c, 0])),
         // The same words, in another order and by slots that are these only modulo k.
         ("aux-modulo", words(&aux, &[d + 16, b + 0x3ff_fff0, a + 32, c])),
-        // Words with a slot and no value, which are empty too.
-        ("aux-valueless", second(&aux, 3, &[7, a, b, 11, c, d, 0x3ff_ffff, 0])),
         ("aux", aux),
         // No exceptions, so no words follow, whatever lg_arr says.
         ("second-none", second(&four, 255, &[])),
@@ -176,7 +174,6 @@ pub fn exceptions() -> Vec<(&'static str, Vec<u8>)> {
     let [a, b, c, d] = [coupon(0, 15), coupon(1, 16), coupon(3, 40), coupon(11, 63)];
     let aux = image(4, 4, vec![a, b, c, d]);
     let list = |list: [u32; 4]| words(&aux, &list);
-    // The word of slot 5 is empty until it has a value.
     let spread = |word: u32, last: u32| second(&aux, 3, &[0, d, 0, b, 0, a, word, last]);
     let over = |word: u32| with(&second(&aux, 3, &[0, a, 0, b, c, 0, word, 0]), 36, &[3]);
     let value = |slot: u32| coupon(slot, 15 + slot % 49);
@@ -217,6 +214,53 @@ pub fn exceptions() -> Vec<(&'static str, Vec<u8>)> {
         ("over-value-14", over(coupon(11, 14))),
         ("most-twice", second(&most, 13, &twice)),
         ("most-nibble", with(&most, 40 + 2047, &[0xff])),
+    ]
+}
+
+/// Words with a slot and no value, which are entries, beside the zero word, which is none.
+pub fn valueless() -> Vec<(&'static str, Vec<u8>)> {
+    let [a, b, c, d] = [coupon(0, 15), coupon(1, 16), coupon(3, 40), coupon(11, 63)];
+    let aux = image(4, 4, vec![a, b, c, d]);
+    let list = |list: [u32; 4]| words(&aux, &list);
+    let zero = |word: u32| second(&aux, 3, &[0, d, 0, b, 0, a, word, 0]);
+    let last = |word: u32| second(&aux, 3, &[0, d, 0, b, 0, a, c, word]);
+    let one = image(4, 4, vec![a]);
+    let beside = |word: u32| second(&one, 1, &[a, word]);
+    let value = |slot: u32| coupon(slot, 15 + slot % 49);
+    let most = image(4, 12, (0..4095).map(value).collect());
+    let most = |word: u32| {
+        let words: Vec<u32> =
+            (0..4095).flat_map(|slot| [0, value(slot)]).chain([0, word]).collect();
+        second(&most, 13, &words)
+    };
+
+    vec![
+        ("aux-valueless", second(&aux, 3, &[7, a, b, 11, c, d, 0x3ff_ffff, 0])),
+        ("zero", zero(c)),
+        ("zero-count-3", with(&zero(c), 36, &[3])),
+        ("zero-count-5", with(&zero(c), 36, &[5])),
+        ("zero-fewer", zero(0)),
+        ("zero-slot-2", zero(coupon(2, 40))),
+        ("last-slot-16", last(16)),
+        ("last-slot-27", last(27)),
+        ("last-slot-12", last(12)),
+        ("last-slot-15", last(0x3ff_ffff)),
+        ("list-zero", list([a, b, c, 0])),
+        ("list-0-slot-16", list([a, b, c, 16])),
+        ("list-0-slot-11", list([a, b, c, 11])),
+        ("list-0-then-twice", list([16, a, c, d])),
+        ("list-twice-then-0", list([a, a, 3, d])),
+        ("list-zero-then-0", list([a, 0, 16, d])),
+        ("list-0-then-zero", list([a, 16, 0, d])),
+        // docs/DIFFERENCES.md, nos. 11 to 13.
+        ("beside-zero", beside(0)),
+        ("beside-1", beside(1)),
+        ("beside-1-count-2", with(&beside(1), 36, &[2])),
+        ("beside-16", beside(16)),
+        ("alone-1", words(&one, &[1])),
+        ("alone-16", words(&one, &[16])),
+        ("most-last", most(4095)),
+        ("most-4096", most(4096)),
     ]
 }
 

@@ -102,11 +102,11 @@ fn merges(cases: &mut Cases, images: &Disk) {
     // All kinds, in two orders.
     cases.add("OK", job(4, "aux six risen three last"));
     cases.add("OK", job(4, "last three risen six aux"));
-    // Kind 4: exceptions, told in four ways; cur_min 2 and 63.
+    // Kind 4: exceptions, told in three ways, and beside them words with a slot and no value, which are wrong; cur_min 2 and 63.
     cases.add("OK", job(4, "aux"));
     cases.add("OK", job(4, "aux-second"));
     cases.add("OK", job(4, "aux-modulo"));
-    cases.add("OK", job(4, "aux-valueless"));
+    cases.placed("AUX_LOW", 1, 0, "aux-valueless");
     cases.add("OK", job(4, "risen"));
     cases.add("OK", job(4, "top"));
     // Bytes that are not read: of the header, and behind the image up to the 40,000th. A shorter file
@@ -213,12 +213,14 @@ fn refusals(cases: &mut Cases, images: &Disk) {
 /// What is wrong with exception words, and where: each answer beside one that is a byte away, which
 /// may be OK.
 fn exceptions(cases: &mut Cases) {
-    for good in ["aux-16", "list", "list-value-15", "list-slot-27", "spread"] {
+    for good in ["aux-16", "list", "list-value-15", "list-slot-27"] {
         cases.add("OK", job(4, good));
     }
     for (name, position, place, file) in [
+        // Its last word has a slot and no value.
+        ("AUX_LOW", 1, 7, "spread"),
         // The compact form: a word's value, its slot; a nibble.
-        ("AUX_EMPTY", 1, 2, "list-value-0"),
+        ("AUX_LOW", 1, 2, "list-value-0"),
         ("AUX_LOW", 2, 2, "list-value-1"),
         ("AUX_LOW", 3, 2, "list-value-14"),
         ("AUX_TWICE", 2, 3, "list-slot-16"),
@@ -231,15 +233,15 @@ fn exceptions(cases: &mut Cases) {
         ("AUX_LOW", 2, 1, "list-low-then-twice"),
         ("AUX_TWICE", 3, 1, "list-twice-then-empty"),
         ("AUX_EMPTY", 4, 1, "list-empty-then-twice"),
-        // The second form, whose empty words are counted in the place: the count; an entry fewer and
-        // one more; a word's value, its slot; no words.
-        ("AUX_COUNT", 1, 0, "spread-count-3"),
-        ("AUX_COUNT", 2, 0, "spread-count-5"),
-        ("AUX_COUNT", 3, 0, "spread-fewer"),
+        // The second form, whose empty words are counted in the place; the last word has a slot and no value unless an earlier
+        // one answers: the count; a word of no value, and an entry more; a word's value, its slot; no words.
+        ("AUX_LOW", 1, 7, "spread-count-3"),
+        ("AUX_LOW", 2, 7, "spread-count-5"),
+        ("AUX_LOW", 3, 6, "spread-fewer"),
         ("AUX_COUNT", 1, 0, "spread-more"),
         ("AUX_LOW", 3, 6, "spread-value-14"),
         ("AUX_TWICE", 2, 6, "spread-slot-11"),
-        ("AUX_MATCH", 1, 2, "spread-slot-2"),
+        ("AUX_LOW", 1, 7, "spread-slot-2"),
         ("AUX_MATCH", 2, 0, "spread-none"),
         // An entry more than the count asks for: judged before it is counted.
         ("AUX_COUNT", 3, 0, "over"),
@@ -258,6 +260,44 @@ fn coupons(cases: &mut Cases) {
     cases.refused("SHORT", 1, "coupon-list");
     cases.refused("HEADER", 2, "coupon-list-40");
     cases.refused("HEADER", 3, "coupon-set");
+}
+
+/// Words with a slot and no value are entries, twice or too low; the zero word beside each is none.
+fn valueless(cases: &mut Cases) {
+    cases.add("OK", job(4, "zero"));
+    cases.add("OK", job(4, "beside-zero"));
+    for (name, position, place, file) in [
+        // The second form with zero words between, and an entry fewer by one more of them.
+        ("AUX_COUNT", 1, 0, "zero-count-3"),
+        ("AUX_COUNT", 2, 0, "zero-count-5"),
+        ("AUX_COUNT", 3, 0, "zero-fewer"),
+        ("AUX_MATCH", 1, 2, "zero-slot-2"),
+        // Its last word, whatever the count: of a slot that is there, of one that is not.
+        ("AUX_TWICE", 1, 7, "last-slot-16"),
+        ("AUX_TWICE", 2, 7, "last-slot-27"),
+        ("AUX_LOW", 3, 7, "last-slot-12"),
+        ("AUX_LOW", 1, 7, "last-slot-15"),
+        // The compact form.
+        ("AUX_EMPTY", 1, 3, "list-zero"),
+        ("AUX_TWICE", 2, 3, "list-0-slot-16"),
+        ("AUX_LOW", 3, 3, "list-0-slot-11"),
+        // Two words wrong, of which the earlier answers.
+        ("AUX_LOW", 1, 0, "list-0-then-twice"),
+        ("AUX_TWICE", 2, 1, "list-twice-then-0"),
+        ("AUX_EMPTY", 3, 1, "list-zero-then-0"),
+        ("AUX_TWICE", 4, 1, "list-0-then-zero"),
+        // Where the Rust answers otherwise.
+        ("AUX_LOW", 1, 1, "beside-1"),
+        ("AUX_LOW", 2, 1, "beside-1-count-2"),
+        ("AUX_TWICE", 3, 1, "beside-16"),
+        ("AUX_LOW", 1, 0, "alone-1"),
+        ("AUX_LOW", 2, 0, "alone-16"),
+        // The last of 8,192 words; zero there is most-second, above.
+        ("AUX_LOW", 1, 8191, "most-last"),
+        ("AUX_TWICE", 2, 8191, "most-4096"),
+    ] {
+        cases.placed(name, position, place, file);
+    }
 }
 
 /// The output can't be written: its folder is missing; it is a folder; it is a device, which takes
@@ -350,7 +390,8 @@ pub fn lay_out(folder: &Path, disk: &Disk) -> io::Result<()> {
 
 /// Makes the files of both crates in folders of their names; says how many jobs have each answer.
 pub fn write(folder: &Path) -> io::Result<String> {
-    let images: Vec<_> = [good(), bad(), images::exceptions(), images::coupons()].concat();
+    let images: Vec<_> =
+        [good(), bad(), images::exceptions(), images::coupons(), images::valueless()].concat();
     let images = images.into_iter().map(|(name, image)| (name.to_string(), image));
     let images = Disk(images.collect());
     let mut cases = Cases(Vec::new());
@@ -360,6 +401,7 @@ pub fn write(folder: &Path) -> io::Result<String> {
     texts(&mut cases);
     exceptions(&mut cases);
     coupons(&mut cases);
+    valueless(&mut cases);
 
     let mut disk = images.clone();
     for (n, case) in cases.0.iter().enumerate() {

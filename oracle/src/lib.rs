@@ -27,6 +27,7 @@ pub mod program;
 pub mod replay;
 pub mod request;
 pub mod samples;
+pub mod valueless;
 
 /// Carries the methods that reach private items of `hll`; see the stand-ins' door.rs.
 pub struct Door;

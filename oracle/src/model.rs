@@ -131,12 +131,6 @@ pub fn refusal(image: &[u8]) -> u8 {
     said(image).0
 }
 
-/// Whether a second-form image lists a word with a slot but no value: empty for document 01,
-/// an entry for the Rust.
-pub fn lists_valueless(image: &[u8]) -> bool {
-    image[5] & 8 == 0 && listed(image).any(|word| word != 0 && value(word) == 0)
-}
-
 fn taken(table: &[u32]) -> impl Iterator<Item = u32> {
     table.iter().copied().filter(|word| *word != 0)
 }
@@ -204,7 +198,7 @@ impl Model {
                 model.registers[at] += model.cur_min;
             }
         }
-        for word in listed(image).filter(|word| value(*word) != 0) {
+        for word in listed(image).filter(|word| *word != 0) {
             let at = slot(word) % k;
             model.registers[at] = value(word);
             model.insert(word & 0xfc00_0000 | at as u32);

@@ -2,7 +2,7 @@
 //! and what it leaves. Merged registers and images are the Rust's and the refusals of opening are the
 //! model's; only what the program adds to them is stated here.
 
-use crate::model::{Model, lists_valueless, said};
+use crate::model::said;
 use crate::{Answer, Recipe, State, merge};
 use std::collections::BTreeMap;
 use std::fmt;
@@ -145,19 +145,13 @@ pub fn run(disk: &mut Disk, text: &[u8]) -> Outcome {
         if no != 0 {
             return Outcome::Refused { no, place, file: sources.len() + 1 };
         }
-        sources.push(source(file.unwrap()));
+        sources.push(Recipe::Open { image: file.unwrap().to_vec(), coupons: Vec::new() });
     }
     let state = merged(job.lg_k, &sources);
     if !disk.write(&job.out, &state.image) {
         return Outcome::Refused { no: IO, place: 0, file: 0 };
     }
     Outcome::Merged { files: sources.len(), state }
-}
-
-/// The image for the Rust, in other words where it alone refuses it (docs/DIFFERENCES.md, no. 11).
-fn source(image: &[u8]) -> Recipe {
-    let image = if lists_valueless(image) { Model::open(image).image() } else { image.to_vec() };
-    Recipe::Open { image, coupons: Vec::new() }
 }
 
 /// The Rust's merges into an empty sketch, with the flag and the hip that we write (nos. 15, 16).

@@ -219,30 +219,12 @@ fn merged(random: &mut Random, list: &mut List, source: Recipe, lg_k: u8) {
 /// The answers about exception words, each with its place, and images beside them that open: the
 /// cases worked out by hand, then N histories whose image, in both forms, is damaged at random. Then
 /// the answers to lists and sets, by a sketch that they are fed to: worked out by hand, and N that
-/// are damaged at random.
+/// are damaged at random. At last exception words with a slot and no value, by hand and at random.
 pub fn places(n: u64, seed: u64) -> String {
     let random = &mut Random::new(seed);
     let mut list = List(String::new());
-    for (what, image, wanted) in aux_cases::small() {
-        assert_eq!(said(&image), wanted, "{what}");
-        list.answer('A', &image, wanted);
-    }
-    for i in 0..n {
-        let lg_k = if i % 10 == 0 { LARGEST } else { 4 + random.below(4) as u8 };
-        let coupons = batches(random, lg_k).concat();
-        let Answer::Ok(state) = run(&Recipe::History { kind: 4, lg_k, coupons }) else {
-            unreachable!()
-        };
-        for form in [listed(random, &state.image), spread(random, &state.image)] {
-            for _ in 0..4 {
-                let image = damage::exceptions(random, &form);
-                let answer = said(&image);
-                if answer.0 == 0 || answer.0 > 20 {
-                    list.answer('A', &image, answer);
-                }
-            }
-        }
-    }
+    by_hand(&mut list, aux_cases::small());
+    (0..n).for_each(|i| at_random(random, &mut list, i % 10 == 0, damage::exceptions));
     let mut at_hand = None;
     for (what, image, lg_k, wanted) in list_cases::cases() {
         assert_eq!(lists::said(&image, lg_k), wanted, "{what}");
@@ -264,7 +246,39 @@ pub fn places(n: u64, seed: u64) -> String {
             list.answer('B', &image, lists::said(&image, lg_k));
         }
     }
+    by_hand(&mut list, aux_cases::valueless());
+    (0..n / 3).for_each(|_| at_random(random, &mut list, false, damage::valueless));
     list.0
+}
+
+fn by_hand(list: &mut List, cases: Vec<aux_cases::Case>) {
+    for (what, image, wanted) in cases {
+        assert_eq!(said(&image), wanted, "{what}");
+        list.answer('A', &image, wanted);
+    }
+}
+
+/// A history of kind 4, whose image is damaged in both forms.
+fn at_random(
+    random: &mut Random,
+    list: &mut List,
+    large: bool,
+    damage: fn(&mut Random, &[u8]) -> Vec<u8>,
+) {
+    let lg_k = if large { LARGEST } else { 4 + random.below(4) as u8 };
+    let coupons = batches(random, lg_k).concat();
+    let Answer::Ok(state) = run(&Recipe::History { kind: 4, lg_k, coupons }) else {
+        unreachable!()
+    };
+    for form in [listed(random, &state.image), spread(random, &state.image)] {
+        for _ in 0..4 {
+            let image = damage(random, &form);
+            let answer = said(&image);
+            if answer.0 == 0 || answer.0 > 20 {
+                list.answer('A', &image, answer);
+            }
+        }
+    }
 }
 
 /// A short list in which one thing is wrong on each line but those that make the sketch, and but
@@ -284,8 +298,8 @@ pub fn wrong(seed: u64) -> String {
     list.bytes('O', &image[..image.len() - 1]);
     let (_, state) = list.fed(Recipe::Open { image, coupons: Vec::new() }, vec![some(random, 4)]);
     each_changed(&mut list, 'J', &state.image);
-    answers_changed(&mut list, 22);
-    answers_changed(&mut list, 0);
+    answers_changed(&mut list, "slot 0 as 16");
+    answers_changed(&mut list, "good");
     list.0 += UNREAD;
     // Of a sketch that is fed images, while the other waits aside.
     list.bytes('P', &[]);
@@ -301,9 +315,9 @@ pub fn wrong(seed: u64) -> String {
 /// bytes where there are none; no such letter; nothing; half a byte; no digit; a space.
 const UNREAD: &str = "S0504\nS0403\nS04\nF040000\nM\nM00\nP00\nQ00\nr00\n\nR0\nR0G\nR 00\n";
 
-fn answers_changed(list: &mut List, number: u8) {
+fn answers_changed(list: &mut List, what: &str) {
     let cases = aux_cases::small();
-    let (_, image, answer) = cases.iter().find(|case| case.2.0 == number).unwrap();
+    let (_, image, answer) = cases.iter().find(|case| case.0 == what).unwrap();
     answer_changed(list, 'A', image, *answer);
 }
 

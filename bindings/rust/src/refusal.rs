@@ -6,8 +6,8 @@ use std::fmt;
 /// Why a call refused. `SIZE`, `DAMAGED`, `NO_ROOM` and `OUT` speak of lent memory: a [`Sketch`](crate::Sketch) never answers them.
 ///
 /// Five answers tell what is wrong with an image's exception words, and four of them where: the position of a word is counted from 0, with the
-/// empty words that an image without the compact flag may have. The earliest wrong word is told; for one word, the first of `AUX_EMPTY`,
-/// `AUX_TWICE`, `AUX_LOW`.
+/// zero words that an image without the compact flag may have. The earliest wrong word is told; for one word, the first of `AUX_EMPTY`,
+/// `AUX_TWICE`, `AUX_LOW`. A word with a slot and no value is not empty: it is one of the other two in every image.
 #[derive(Clone, Copy, Debug, PartialEq, Eq, Hash)]
 pub enum Refusal {
     /// `KIND`: a kind that is not 4, 6 or 8, or a merge target that is not of kind 8.
@@ -40,7 +40,7 @@ pub enum Refusal {
     Tally,
     /// `OUT`: a lent buffer that is shorter than the image.
     Out,
-    /// `AUX_EMPTY`: a compact image with an exception word that is empty, at this position.
+    /// `AUX_EMPTY`: a compact image with an exception word that is zero, at this position.
     AuxEmpty(u32),
     /// `AUX_TWICE`: an image with an exception word whose slot an earlier word has; the later word's position.
     AuxTwice(u32),
@@ -146,7 +146,7 @@ impl fmt::Display for Refusal {
             Refusal::Spare => "the image's spare byte is not 0",
             Refusal::Tally => "the image's num_at_cur_min is not the number counted",
             Refusal::Out => "the buffer is shorter than the image",
-            Refusal::AuxEmpty(_) => "an exception word of the image is empty",
+            Refusal::AuxEmpty(_) => "an exception word of the image is zero",
             Refusal::AuxTwice(_) => "an exception word of the image has the slot of an earlier one",
             Refusal::AuxLow(_) => "an exception word of the image has a value below cur_min + 15",
             Refusal::AuxCount => "the image's exception words are more or fewer than its count",

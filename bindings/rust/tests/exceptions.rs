@@ -55,11 +55,27 @@ fn empty() {
     for (at, slot) in [(0, 0), (1, 5), (2, 9)] {
         replaced(at as usize, word(slot, 15), Ok(()));
         replaced(at as usize, word(slot, 1), Err(AuxLow(at)));
-        replaced(at as usize, word(slot, 0), Err(AuxEmpty(at)));
+        replaced(at as usize, 0, Err(AuxEmpty(at)));
     }
-    // The slot of an empty word says nothing, not even that it is there twice.
+    answers(&second(3, &[word(0, 20), word(5, 30), word(9, 40), 0]), Ok(()));
+}
+
+/// A word with a slot is not empty, and without a value it is too low, or twice, in both forms.
+#[test]
+fn no_value() {
+    replaced(1, word(5, 0), Err(AuxLow(1)));
     replaced(1, word(0, 0), Err(AuxEmpty(1)));
-    answers(&second(3, &[word(0, 20), word(5, 30), word(9, 40), word(0, 0)]), Ok(()));
+    for slot in [16, 32, (1 << 26) - 16] {
+        replaced(0, word(slot, 0), Err(AuxLow(0)));
+        replaced(1, word(slot, 0), Err(AuxTwice(1)));
+    }
+    let words = |last| [word(0, 20), word(5, 30), word(9, 40), last];
+    for count in [3, 4] {
+        answers(&second(count, &words(word(1, 0))), Err(AuxLow(3)));
+        answers(&second(count, &words(word((1 << 26) - 1, 0))), Err(AuxLow(3)));
+        answers(&second(count, &words(word(9, 0))), Err(AuxTwice(3)));
+        answers(&second(count, &words(word(16, 0))), Err(AuxTwice(3)));
+    }
 }
 
 #[test]
@@ -105,7 +121,8 @@ fn places_of_the_second_form() {
     answers(&second(3, &words(word(0, 30), word(9, 40))), Err(AuxTwice(5)));
     answers(&second(3, &words(word(5, 14), word(9, 40))), Err(AuxLow(5)));
     answers(&second(3, &words(word(5, 30), word(5, 40))), Err(AuxTwice(7)));
-    answers(&second(3, &words(word(5, 30), word(9, 0))), Err(AuxCount));
+    answers(&second(3, &words(word(5, 30), word(9, 0))), Err(AuxLow(7)));
+    answers(&second(3, &words(word(5, 30), 0)), Err(AuxCount));
 }
 
 #[test]

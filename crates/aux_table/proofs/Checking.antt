@@ -5,10 +5,11 @@ use mathlib.Core.List.{List}
 use Prim.Native.Nat.{ℕ, _-_, _≤_, _<_}
 use native.Mathlib.Omega.{arith}
 use native.Mathlib.Decide.{ℕ-discrete}
-use lib.ListN.{length, take, drop, length-drop}
-use lib.Seq.{length-take-le, take-all}
+use lib.ListN.{length, take, drop}
+use lib.Seq.{length-take-le}
 use Rattle.model.specs.Pick.{Tells}
 use Rattle.model.specs.Table.{Room, Reached, used, sizeFor, tableSize}
+use Rattle.model.proofs.packing.ByteLists.{from-on}
 use Rattle.model.proofs.order.Tells.{tells-no, tells-as}
 use Rattle.model.proofs.table.Refill.{room-of}
 use Rattle.model.proofs.table.Inserted.{size-fits}
@@ -47,7 +48,7 @@ module _ (area : List ℕ) (base count : ℕ) where
 
           module _ (past : ℕ) (behind : past ≡ used (take (length area - size) (drop size area))) where
             past-is : past ≡ used (drop size area)
-            past-is = behind ∙ ap used (take-all (length area - size) (drop size area) (omega (arith, length-drop size area)))
+            past-is = behind ∙ ap used (from-on size area)
 
             pub unclean : (past ≡ 0 → ⊥) → Tells false (Ordered base count area)
             unclean h = tells-no (λ o. h (past-is ∙ ap (λ (n : ℕ). used (drop n area)) e ∙ o .clean))

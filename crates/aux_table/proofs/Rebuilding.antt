@@ -7,6 +7,7 @@ use native.Mathlib.Decide.{ℕ-discrete}
 use lib.ListN.{length, take, drop, replicate, length-replicate, length-drop}
 use lib.Seq.{length-take-le}
 use Rattle.model.specs.Table.{used, keeps, made, laid, tableSize, Makable}
+use Rattle.model.specs.Coupon.{slot}
 use Rattle.model.proofs.table.Order.{no-slot-twice}
 use Rattle.model.proofs.table.Inserts.{size-mono}
 use Rattle.aux_map.specs.Grow.{over}
@@ -37,7 +38,7 @@ module _ (area scratch : List ℕ) (base size limit : ℕ) (ok : Rebuildable are
   words : Makable (keeps limit (take size area))
   words =
       makable (omega (arith, few, ok .few)) (λ x m z. omega (arith, keeps-from limit (take size area) x m .1, ok .some))
-      (sifted-distinct _ (take size area) (no-slot-twice (take size area) (ok .kept .good)))
+      (sifted-distinct _ slot (take size area) (no-slot-twice (take size area) (ok .kept .good)))
 
   -- the area, cleared
   module _ (c : List ℕ) (ec : c ≡ replicate (length (take size area)) 0) where

@@ -34,9 +34,9 @@ pub fn word(slot: u32, value: u8) -> u32
     ((value as u32) << 26) + slot
 }
 
-// Whether a word of an image is empty. In memory an empty place is the word 0, which is another question.
+// Whether it is the empty word. One with a slot and no value is not.
 pub fn is_empty(word: u32) -> bool
     ensures { λ r. ⌜ r ≡ book.isEmpty word ⌝ }
 {
-    word >> 26 == 0
+    word == 0
 }

@@ -4,9 +4,10 @@ use mathlib.Core.List.{List}
 use Prim.Native.Nat.{ℕ, _+_, _-_, _≤_}
 use native.Mathlib.Omega.{arith}
 use lib.ListN.{length, take, drop, length-drop}
-use lib.Seq.{length-take-le, take-all}
+use lib.Seq.{length-take-le}
 use Rattle.model.specs.Sketch.{bytesOf}
 use Rattle.model.specs.Image.{sketchIn, regsIn}
+use Rattle.model.proofs.packing.ByteLists.{from-on}
 use Rattle.model.specs.declared.Sketch.{Sketch}
 
 module _ (l : List ℕ) (s : Sketch) (is : s ≡ sketchIn l) where
@@ -24,7 +25,7 @@ module _ (l : List ℕ) (s : Sketch) (is : s ≡ sketchIn l) where
 
     -- and what is behind them
     pub words-part : take (length l - (40 + n)) (drop (40 + n) l) ≡ drop (40 + bytesOf (sketchIn l .kind) (sketchIn l .«lg_k»)) l
-    words-part = take-all (length l - (40 + n)) (drop (40 + n) l) (omega (arith, length-drop (40 + n) l)) ∙ ap (λ (m : ℕ). drop (40 + m) l) (e ∙ size-is)
+    words-part = from-on (40 + n) l ∙ ap (λ (m : ℕ). drop (40 + m) l) (e ∙ size-is)
 
     pub words-long : length (take (length l - (40 + n)) (drop (40 + n) l)) ≡ length l - (40 + n)
-    words-long = ap length (take-all (length l - (40 + n)) (drop (40 + n) l) (omega (arith, length-drop (40 + n) l))) ∙ length-drop (40 + n) l
+    words-long = ap length (from-on (40 + n) l) ∙ length-drop (40 + n) l

@@ -5,5 +5,4 @@ pub mod Turns
 pub mod Passing
 pub mod Leasts
 pub mod Sweeping
-pub mod Pigeons
 pub mod Verdict

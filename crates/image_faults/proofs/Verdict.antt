@@ -2,40 +2,34 @@
 use mathlib.Core.Path.{_≡_, refl, sym, _∙_}
 use mathlib.Core.Bool.{Bool, true, false}
 use mathlib.Core.List.{List}
-use Prim.Native.Nat.{ℕ, _+_, _≤_, _<_}
+use Prim.Native.Nat.{ℕ, _≤_, _<_}
 use native.Mathlib.Decide.{ℕ-discrete}
 use native.Mathlib.Omega.{arith}
-use lib.Dec.{eqb, leb, ltb}
-use lib.Pow.{pow-pos}
-use lib.ListN.{length, getD}
+use lib.Dec.{eqb, ltb}
+use lib.ListN.{length}
 use borrow.Author.Tests.{lt-ltb, le-ltb, eq-eqb, ne-eqb}
 use Rattle.model.specs.Pick.{pick, first}
-use Rattle.model.specs.Coupon.{value, home, isEmpty}
 use Rattle.model.specs.Registers.{countOf}
 use Rattle.model.specs.Table.{filled}
 use Rattle.model.specs.Answers.{Said, said}
-use Rattle.model.specs.Faults.{listed, faultAt, unmatched, auxFault}
+use Rattle.model.specs.Faults.{faultAt, unmatched, auxFault}
+use Rattle.model.specs.Sketch.{sketchOf}
+use Rattle.model.proofs.image.Faults.{Says, right, empty, twice, low-one, fault-says}
+use Rattle.model.proofs.image.SameSlots.{even-none}
 use Rattle.image_header.specs.declared.Header.{Header}
 use Rattle.image_faults.specs.declared.View.{View}
 use Rattle.image_faults.specs.Windows.{slots, Swept}
-use Rattle.image_faults.proofs.Firsts.{first-by, found-first, least-first}
-use Rattle.image_faults.proofs.Entries.{entries-filled}
-use Rattle.image_faults.proofs.Pigeons.{fresh-of, all-match}
+use Rattle.image_faults.proofs.Firsts.{found-first, least-first}
 
 -- the numbers that a word can have
 fault-numbers : (compact : Bool) (k low : ℕ) (ws : List ℕ) (i n : ℕ) → n ≡ faultAt compact k low ws i → (n ≡ 0 → ⊥) → (n ≡ 21 → ⊥) → (n ≡ 22 → ⊥) → n ≡ 23
-unfolding faultAt
-fault-numbers compact k low ws i n e x y z = go (isEmpty w) compact (listed k ws i (home k w)) (leb (low + 15) (value w)) e
+fault-numbers compact k low ws i n e x y z = go (fault-says compact k low ws i)
   where
-    w : ℕ
-    w = getD ws i 0
-
-    go : (a b c d : Bool) → n ≡ pick a (pick b 21 0) (pick c 22 (pick d 0 23)) → n ≡ 23
-    go true true c d q = absurd (y q)
-    go true false c d q = absurd (x q)
-    go false b true d q = absurd (z q)
-    go false b false true q = absurd (x q)
-    go false b false false q = q
+    go : Says compact k low ws i (faultAt compact k low ws i) → n ≡ 23
+    go (right r q) = absurd (x (e ∙ q))
+    go (empty p q) = absurd (y (e ∙ q))
+    go (twice p q) = absurd (z (e ∙ q))
+    go (low-one t p q) = e ∙ q
 
 module _ {look : Bool} {h : Header} {ws ns : List ℕ} {v : View} (s : Swept look h ws ns v) where
   abbrev answer : Said
@@ -66,12 +60,8 @@ module _ {look : Bool} {h : Header} {ws ns : List ℕ} {v : View} (s : Swept loo
       -- one set, with no slot looked at
       pub is-even : v .walk .even ≡ true → length ns ≡ slots h → h .«aux_count» ≡ countOf 15 ns → said 0 0 ≡ answer
       is-even e long full =
-          sym (by-slot (slots h)
-          (first-by (unmatched (slots h) ws ns) (slots h) (slots h) (omega arith) (λ l. absurd (omega arith))
-          (all-match (slots h) ws (pow-pos (h .«lg_k»)) ns (length ws)
-          (λ m l. fresh-of (slots h) ws (pow-pos (h .«lg_k»)) (h .compact) (h .«cur_min») m (s .found .before m (omega (arith, s .found .none z))))
-          (s .evens z e) long (entries-filled ws ∙ sym (s .counted z) ∙ same ∙ full)))
-          ∙ rw (le-ltb (slots h) (slots h) (omega arith)) refl)
+          sym (even-none (h .compact) (sketchOf 4 (h .«lg_k») (h .«cur_min») 0 (h .«aux_count»)) ns ws long
+          (λ i l. s .found .before i (omega (arith, s .found .none z))) (s .evens z e) (sym (s .counted z) ∙ same) (sym full))
 
       module _ {u : View} (again : Swept true h ws ns u) where
         -- nothing is wrong with the words the second time

@@ -5,17 +5,12 @@ use mathlib.Core.List.{List}
 use Prim.Native.Nat.{ℕ, _+_, _-_, _≤_, _<_}
 use native.Mathlib.Omega.{arith}
 use lib.Dec.{eqb}
-use lib.ListN.{length, getD, take, drop, length-drop}
-use lib.Seq.{take-all}
+use lib.ListN.{length, getD, drop}
 use Rattle.model.specs.Pick.{pick}
 use Rattle.model.specs.Packed.{Bytes, slotAt}
 use Rattle.model.specs.Lists.{Layout, listLayout, setLayout, layoutIn, couponCount}
 use Rattle.model.proofs.packing.Packing.{slot-lt}
 use Rattle.model.proofs.image.CouponLines.{byte-slot}
-
--- an image from a byte on
-pub from-on : (n : ℕ) (l : List ℕ) → take (length l - n) (drop n l) ≡ drop n l
-from-on n l = take-all (length l - n) (drop n l) (omega (arith, length-drop n l))
 
 -- what holds of both layouts holds of an image's
 pub each-layout : (P : Layout → Type 0) (l : List ℕ) → P setLayout → P listLayout → P (layoutIn l)

@@ -1,18 +1,19 @@
 -- A turn of the loop of `collect`, which walks the words from their end. Assumes nothing.
-use mathlib.Core.Path.{_≡_, refl, sym, _∙_, ap, ap₂}
-use mathlib.Core.Bool.{Bool, true, false}
-use mathlib.Core.List.{List, [], _∷_, map}
-use Prim.Native.Nat.{ℕ, zero, suc, _+_, _-_, _^_, _≤_, _<_}
+use mathlib.Core.Path.{_≡_, sym, _∙_, ap, ap₂}
+use mathlib.Core.Bool.{true, false}
+use mathlib.Core.List.{List, _∷_, map}
+use Prim.Native.Nat.{ℕ, suc, _+_, _-_, _^_, _≤_, _<_}
 use native.Mathlib.Nat.{le-refl}
 use native.Mathlib.Omega.{arith}
-use lib.ListN.{length, set, take, drop, length-map, length-drop, length-set}
+use lib.ListN.{length, set, take, drop, length-map, length-drop, length-set, take-append-drop}
 use lib.Seq.{drop-length, set-split, drop-at, length-take-le}
 use Rattle.model.specs.Packed.{slotAt, unpacked}
 use Rattle.model.specs.Coupon.{isEmpty}
-use Rattle.model.specs.Table.{filled}
+use Rattle.model.specs.Table.{filled, used}
 use Rattle.model.specs.Image.{homed}
 use Rattle.model.proofs.packing.Packing.{length-unpacked}
-use Rattle.model.proofs.table.Sifted.{sifted-none, filled-in, filled-out}
+use Rattle.model.proofs.table.Sifted.{sifted-none, filled-in, filled-out, filled-used}
+use Rattle.model.proofs.table.Refill.{used-append}
 use Rattle.image_words.proofs.Cells.{cells-next}
 
 -- from top on stand the entries among the words from j on
@@ -22,13 +23,7 @@ pub record Stands (lgk : ℕ) (ws into : List ℕ) (top j : ℕ) : Type 0 where
 
 -- fewer words, fewer entries
 entries-fewer : (j : ℕ) (ws : List ℕ) → length (filled (drop j ws)) ≤ length (filled ws)
-entries-fewer zero ws = le-refl _
-entries-fewer (suc j) [] = le-refl _
-entries-fewer (suc j) (w ∷ ws) = go (entries-fewer j ws) (isEmpty w) refl
-  where
-    go : length (filled (drop j ws)) ≤ length (filled ws) → (b : Bool) → isEmpty w ≡ b → length (filled (drop j ws)) ≤ length (filled (w ∷ ws))
-    go h true e = omega (arith, ap length (filled-out w ws e))
-    go h false e = omega (arith, ap length (filled-in w ws e))
+entries-fewer j ws = omega (arith, filled-used (drop j ws), filled-used ws, ap used (take-append-drop j ws), used-append (take j ws) (drop j ws))
 
 pub stands-none : (lgk : ℕ) (many : ℕ) (words into : List ℕ) → Stands lgk (unpacked 32 many words) into (length into) many
 stands-none lgk many words into =

@@ -1,9 +1,10 @@
 -- The claims of specs/Claims.antt, each with its proof. Assumes nothing.
-use Rattle.model.specs.Claims.{Demand1, AuxNone, Unchanged, Coincide, FeedKeeps, FeedImageKeeps, MergeKeeps, TwiceIsRoom, ExactSums, OpensGood, OpensAlike, OpensAs, ReadsOne, Reopens, CouponsRead, FeedsAsBatch, Demand2, Demand3}
+use Rattle.model.specs.Claims.{Demand1, AuxNone, EmptyWord, Unchanged, Coincide, FeedKeeps, FeedImageKeeps, MergeKeeps, TwiceIsRoom, ExactSums, OpensGood, OpensAlike, OpensAs, ReadsOne, Reopens, CouponsRead, FeedsAsBatch, Demand2, Demand3}
 use Rattle.model.proofs.calls.Refused as refused
 use Rattle.model.proofs.calls.Named as named
 use Rattle.model.proofs.calls.Places as places
 use Rattle.model.proofs.image.Entries as entries
+use Rattle.model.proofs.image.EmptyWord as empty
 use Rattle.model.proofs.histories.Demand1 as lines
 use Rattle.model.proofs.image.OpenLines as opening
 use Rattle.model.proofs.image.Opening.{open-good}
@@ -38,6 +39,9 @@ demand-1 = record {
 
 pub aux-none : AuxNone
 aux-none = entries.aux-none
+
+pub empty-word : EmptyWord
+empty-word = empty.empty-word
 
 pub unchanged : Unchanged
 unchanged = refused.unchanged

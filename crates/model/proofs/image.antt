@@ -1,6 +1,7 @@
 pub mod Opens
 pub mod Faults
 pub mod Entries
+pub mod EmptyWord
 pub mod Taken
 pub mod SameSlots
 pub mod SaidIn

@@ -5,7 +5,7 @@ use Prim.Native.Nat.{ℕ, _+_, _-_, _^_}
 use lib.Dec.{eqb, leb, ltb}
 use lib.ListN.{length, getD, drop}
 use Rattle.model.specs.Pick.{pick, both, all, firstOf}
-use Rattle.model.specs.Coupon.{value, slot}
+use Rattle.model.specs.Coupon.{value, slot, isEmpty}
 use Rattle.model.specs.Registers.{countOf}
 use Rattle.model.specs.Table.{baseFor, tableSize, place, used}
 use Rattle.model.specs.Sketch.{isKind, bytesOf, cells, tableIn}
@@ -49,7 +49,7 @@ tableFits s regs aux =
     (both (eqb (used t) (s .«aux_count»))
     (both (eqb (countOf 15 (cells s regs)) (s .«aux_count»))
     (both (eqb (used (drop size aux)) 0)
-    (all (λ p. let w = getD t p 0 in pick (eqb w 0) true (both (wordFits s regs w) (eqb (place t (slot w)) p))) (length t)))))
+    (all (λ p. let w = getD t p 0 in pick (isEmpty w) true (both (wordFits s regs w) (eqb (place t (slot w)) p))) (length t)))))
 
 -- good order of a sketch whose shape is right
 unfoldable pub goodOf : Sketch → List ℕ → List ℕ → Bool

@@ -7,8 +7,10 @@ use Prim.Native.Nat.{ℕ, min, _+_, _*_, _-_, _/_, _%_, _^_, _<_, _≤_}
 use lib.IntN.{pos}
 use lib.Ieee.{Float, fin}
 use lib.Ieee.Exact.{HasValue}
+use lib.Dec.{eqb}
 use lib.ListN.{length, getD, take}
-use Rattle.model.specs.Coupon.{value, home, isEmpty}
+use Rattle.model.specs.Pick.{both}
+use Rattle.model.specs.Coupon.{value, slot, home, isEmpty}
 use Rattle.model.specs.Registers.{fed, joined, countOf}
 use Rattle.model.specs.Packed.{Bytes, slotAt, packed}
 use Rattle.model.specs.Table.{baseFor, tableSize, Member, filled}
@@ -195,6 +197,12 @@ pub record AuxNone : Type 0 where
       → Entries s ns (filled ws) × ((i : ℕ) → i < length ws → EmptyAt compact ws i → ⊥)
   pub nothing : (compact : Bool) (s : Sketch) (ns ws : List ℕ) → Entries s ns (filled ws) → ((i : ℕ) → i < length ws → EmptyAt compact ws i → ⊥)
       → auxFault compact (2 ^ s .«lg_k») (s .«cur_min») (s .«aux_count») ws ns ≡ said 0 0
+
+-- the empty word by its two fields; and a word with a slot and no value, which is an entry in both forms: where it is the first that is wrong, it is so as twice, else as too low
+pub record EmptyWord : Type 0 where
+  pub fields : (w : ℕ) → w < 2 ^ 32 → isEmpty w ≡ both (eqb (slot w) 0) (eqb (value w) 0)
+  pub no-value : (compact : Bool) (k low count : ℕ) (ws ns : List ℕ) (i : ℕ) → i < length ws → RightTo compact k low ws i → 0 < slot (getD ws i 0) → value (getD ws i 0) ≡ 0
+      → let f = auxFault compact k low count ws ns in (TwiceAt k ws i × (f ≡ said 22 i)) ⊎ ((TwiceAt k ws i → ⊥) × (f ≡ said 23 i))
 
 -- and then nothing lent changes, save that a batch stopped by NO_ROOM keeps the coupons that it took
 pub record Unchanged : Type 0 where

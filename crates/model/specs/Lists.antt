@@ -4,6 +4,7 @@ use mathlib.Core.List.{List, [], _∷_}
 use lib.Dec.{eqb, leb}
 use lib.ListN.{length, getD, drop}
 use Rattle.model.specs.Pick.{pick, both, firstOf, first}
+use Rattle.model.specs.Coupon.{isEmpty}
 use Rattle.model.specs.Packed.{slotAt, unpacked}
 use Rattle.model.specs.Check.{lgkNo, scratchFits, checkNo}
 use Rattle.model.specs.Calls.{Out, refusedAt, batchOf}
@@ -49,7 +50,7 @@ couponsIn l = unpacked 32 (couponCount l) (drop (layoutIn l .words) l)
 
 -- where the first zero word stands, and the count where there is none
 unfoldable pub emptyIn : List ℕ → ℕ
-emptyIn l = first (λ i. eqb (getD (couponsIn l) i 0) 0) (couponCount l)
+emptyIn l = first (λ i. isEmpty (getD (couponsIn l) i 0)) (couponCount l)
 
 -- ---- the refusals, in document 02's order
 -- 7, 8, 7, 9, 2, 26: what stands before the words

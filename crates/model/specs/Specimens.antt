@@ -6,6 +6,7 @@ use Prim.Native.Nat.{ℕ, zero, suc, _*_}
 use lib.ListN.{length, take, replicate}
 use Rattle.model.specs.Coupon.{word}
 use Rattle.model.specs.Packed.{packed}
+use Rattle.model.specs.Table.{filled}
 use Rattle.model.specs.Sketch.{bytesOf}
 use Rattle.model.specs.Sums.{scaled}
 use Rattle.model.specs.Calls.{Out, startOf, feedOf, mergeOf}
@@ -97,7 +98,7 @@ table =
     -- document 02, request 1: good words in both forms; each of the five; the later of two, the earlier of two faults, words passed over, an entry behind the last that is counted
     ∷ (faultWith true 2 (word 0 15 ∷ word 1 15 ∷ []) is (0 ∷ 0 ∷ []))
     ∷ (faultWith false 2 (0 ∷ word 17 15 ∷ 0 ∷ word 0 15 ∷ []) is (0 ∷ 0 ∷ []))
-    ∷ (faultWith true 2 (word 0 15 ∷ word 1 0 ∷ []) is (21 ∷ 1 ∷ []))
+    ∷ (faultWith true 2 (word 0 15 ∷ 0 ∷ []) is (21 ∷ 1 ∷ []))
     ∷ (faultWith true 2 (word 0 15 ∷ word 16 14 ∷ []) is (22 ∷ 1 ∷ []))
     ∷ (faultWith false 2 (0 ∷ word 0 14 ∷ word 0 15 ∷ []) is (23 ∷ 1 ∷ []))
     ∷ (faultWith false 1 (word 0 15 ∷ word 1 15 ∷ word 0 15 ∷ []) is (22 ∷ 2 ∷ []))
@@ -117,6 +118,13 @@ table =
     ∷ (saidFrom (imageWith 8 4 0 (take 15 (listWith 4 8 0 (word 3 5 ∷ 0 ∷ [])))) is (7 ∷ 0 ∷ 0 ∷ []))
     ∷ (saidFrom (imageWith 8 5 0 (setWith 4 8 1 (word 3 5 ∷ 0 ∷ 0 ∷ []))) is (27 ∷ 1 ∷ 0 ∷ []))
     ∷ (saidFrom (imageWith 8 5 0 (setWith 4 8 1 (word 3 5 ∷ []))) is (5 ∷ 0 ∷ 0 ∷ []))
+    -- request 3: a word with a slot and no value is an entry in both forms, too low or twice, beside the zero word, which is none; 0x10 is for slot 0 too
+    ∷ (filled (word 0 15 ∷ 0x00000001 ∷ 0 ∷ []) is (word 0 15 ∷ 0x00000001 ∷ []))
+    ∷ (faultWith true 2 (word 0 15 ∷ word 1 0 ∷ []) is (23 ∷ 1 ∷ []))
+    ∷ (faultWith true 1 (0x00000010 ∷ []) is (23 ∷ 0 ∷ []))
+    ∷ (faultWith true 2 (word 0 15 ∷ 0x00000010 ∷ []) is (22 ∷ 1 ∷ []))
+    ∷ (faultWith false 2 (word 0 15 ∷ 0x00000001 ∷ 0 ∷ word 1 15 ∷ []) is (23 ∷ 1 ∷ []))
+    ∷ (faultWith false 3 (word 0 15 ∷ word 1 15 ∷ 0x00000001 ∷ 0 ∷ []) is (22 ∷ 2 ∷ []))
     ∷ []
 
 -- the claim: each is as it should be

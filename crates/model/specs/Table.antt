@@ -35,7 +35,7 @@ walk size d a n = (a + n * d) % size
 
 -- a search for slot s ends at the word w: it is empty, or that slot's
 abbrev pub stops : ℕ → ℕ → Bool
-stops s w = pick (eqb w 0) true (eqb (slot w) s)
+stops s w = pick (isEmpty w) true (eqb (slot w) s)
 
 -- how many steps by d the search for slot s goes from the place a
 unfoldable pub stepsFrom : List ℕ → ℕ → ℕ → ℕ → ℕ
@@ -57,7 +57,7 @@ wordAt t s = getD t (place t s) 0
 -- how many words are not empty
 unfoldable pub used : List ℕ → ℕ
 used [] = 0
-used (w ∷ ws) = let r = used ws in pick (eqb w 0) r (suc r)
+used (w ∷ ws) = let r = used ws in pick (isEmpty w) r (suc r)
 
 -- a word put where the search for its slot ends: a new word, or a replaced one
 unfoldable pub replace : List ℕ → ℕ → List ℕ
@@ -66,7 +66,7 @@ replace t w = set t (place t (slot w)) w
 -- the words of a list re-inserted in order, the empty ones passed over
 unfoldable pub refill : List ℕ → List ℕ → List ℕ
 refill into [] = into
-refill into (w ∷ ws) = refill (pick (eqb w 0) into (replace into w)) ws
+refill into (w ∷ ws) = refill (pick (isEmpty w) into (replace into w)) ws
 
 -- growth: re-inserted in table order into a table twice the size
 unfoldable pub grown : List ℕ → List ℕ

@@ -31,13 +31,14 @@ abbrev pub source : ℕ → ℕ → List ℕ → Source
 source kind lgk cs = record { kind = kind; lgk = lgk; coupons = cs }
 
 -- the image of a history; of a target into which sources were merged; of an opened image that was fed on; an image that the Rust refuses too;
--- and the image of a history that was fed a list or a set
+-- the image of a history that was fed a list or a set; and the number and place that opening an image has
 pub data Case : Type 0 where
   history : Source → List ℕ → Case
   merged : Source → List Source → List ℕ → Case
   opened : List ℕ → List ℕ → List ℕ → Case
   refused : List ℕ → Case
   fed : Source → List ℕ → List ℕ → Case
+  answered : ℕ → ℕ → List ℕ → Case
 
 -- two lists are the same
 unfoldable pub same : List ℕ → List ℕ → Bool
@@ -77,6 +78,7 @@ agrees (merged t ss image) = same (compared 16 (imageFrom (mergedAll (made t) ss
 agrees (opened l cs image) = same (compared 32 (imageFrom (openedOut l cs))) (compared 32 image)
 agrees (refused l) = pick (eqb (openedOut l [] .no) 0) false true
 agrees (fed s l image) = same (compared 16 (imageFrom (fedOn (made s) l))) (compared 16 image)
+agrees (answered n p l) = let o = openedOut l [] in both (eqb (o .no) n) (eqb (o .place) p)
 
 -- on each case
 unfoldable pub agreesAll : List Case → Bool

@@ -3,6 +3,8 @@
 
 mod call;
 mod draw;
+#[cfg(feature = "open")]
+mod every;
 mod good;
 mod histories;
 mod least;
@@ -53,6 +55,8 @@ fn compare(n: u64, seed: u64) -> Result<(), String> {
     println!("{}", opened::compare_all(n, seed)?);
     #[cfg(feature = "open")]
     println!("{}", words::compare_all(n, seed)?);
+    #[cfg(feature = "open")]
+    println!("{}", every::compare_all()?);
     #[cfg(feature = "lists")]
     println!("{}", lists::compare_all(n, seed)?);
     #[cfg(feature = "lists")]

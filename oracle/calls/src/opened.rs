@@ -11,7 +11,8 @@ use crate::room::{self, Room};
 use crate::rust;
 use oracle::examples::{self, Random};
 use oracle::hll::HllSketch;
-use oracle::model::{Model, lists_valueless, said};
+use oracle::model::{Model, said};
+use oracle::valueless::Valueless;
 use oracle::{Answer, Door, Recipe, State, hex, run};
 
 #[derive(Default)]
@@ -19,13 +20,15 @@ struct Tally {
     opened: usize,
     fed_on: usize,
     damaged: usize,
+    calls: usize,
     taken: usize,
+    valueless: Valueless,
 }
 
 /// The answer to opening and its place: the model's, with SIZE and NO_ROOM of the lent memory where they stand in the order.
-fn opening(image: &[u8], ours: &Ours) -> (u32, u32) {
-    let (number, place) = said(image);
-    let said = (number.into(), place);
+fn opening(image: &[u8], ours: &Ours) -> (u8, u32) {
+    let said = said(image);
+    let number = said.0;
     if image.len() < 40 || [8, 9, 2].contains(&number) {
         return said;
     }
@@ -64,15 +67,15 @@ fn modelled(model: &Model) -> State {
     }
 }
 
-/// Opens any bytes; where they are refused, nothing lent was written but scratch. Answers whether they were opened.
-pub fn opened(image: &[u8], mut ours: Ours) -> Result<Option<Ours>, String> {
-    let (before, wanted) = (ours.clone(), opening(image, &ours));
-    answered("open", ours.open(image), wanted)?;
+/// Opens any bytes; where they are refused, nothing lent was written but scratch; where they are opened, the Rust opens them alike.
+pub fn opened(image: &[u8], ours: &mut Ours) -> Result<(u8, u32), String> {
+    let (before, wanted) = (ours.clone(), opening(image, ours));
+    answered("open", ours.open(image), (wanted.0.into(), wanted.1))?;
     ours.intact()?;
     if wanted.0 != 0 {
         let untouched = ours.regs.all() == before.regs.all() && ours.aux.all() == before.aux.all();
         return match untouched && ours.record.all() == [0; 5] {
-            true => Ok(None),
+            true => Ok(wanted),
             false => Err(format!(
                 "refused with {wanted:?}, and memory or record are not as they should be"
             )),
@@ -84,10 +87,9 @@ pub fn opened(image: &[u8], mut ours: Ours) -> Result<Option<Ours>, String> {
         Answer::Ok(state) => {
             ours.compare(&state, false).map_err(|fault| format!("opened: {fault}"))?
         }
-        Answer::Error(_) if lists_valueless(image) => {}
         other => return Err(format!("opened, where the Rust answers {other}")),
     }
-    Ok(Some(ours))
+    Ok(wanted)
 }
 
 /// Memory as an image asks for it; a count above k is refused before its table is.
@@ -99,9 +101,10 @@ pub fn lend(image: &[u8], more: usize) -> Ours {
 
 /// An image that the Rust opens too, then fed on.
 fn fed_on(image: &[u8], more: usize, coupons: &[u32], tally: &mut Tally) -> Result<(), String> {
-    let Some(mut ours) = opened(image, lend(image, more))? else {
+    let mut ours = lend(image, more);
+    if opened(image, &mut ours)?.0 != 0 {
         return Err("a good image is refused".into());
-    };
+    }
     tally.opened += 1;
     let mut rust = HllSketch::deserialize(image).map_err(|error| error.to_string())?;
     let registers = Door::registers(&rust).unwrap();
@@ -112,7 +115,7 @@ fn fed_on(image: &[u8], more: usize, coupons: &[u32], tally: &mut Tally) -> Resu
     Ok(())
 }
 
-/// Damaged copies: each byte changed, each length, two bytes at once, bytes behind.
+/// Damaged copies, each once: each byte changed, each length, two bytes at once, bytes behind.
 fn damages(random: &mut Random, image: &[u8]) -> Vec<Vec<u8>> {
     let mut list: Vec<Vec<u8>> = (0..image.len()).map(|long| image[..long].to_vec()).collect();
     for at in (0..image.len()).filter(|at| !(8..32).contains(at)) {
@@ -142,6 +145,9 @@ fn damages(random: &mut Random, image: &[u8]) -> Vec<Vec<u8>> {
             image.iter().copied().chain((0..long).map(|_| random.below(256) as u8)).collect(),
         );
     }
+    list.sort();
+    list.dedup();
+    list.retain(|copy| copy != image);
     list
 }
 
@@ -153,17 +159,21 @@ fn damaged(random: &mut Random, image: &[u8], tally: &mut Tally) -> Result<(), S
         if copy.len() >= 40 && (4..=12).contains(&copy[3]) {
             lents.push(lend(&copy, more));
         }
-        for ours in lents {
+        let mut answers = Vec::new();
+        for mut ours in lents {
             let (regs, area) = (ours.regs.all().len(), ours.aux.all().len());
-            let open = opened(&copy, ours).map_err(|fault| {
+            answers.push(opened(&copy, &mut ours).map_err(|fault| {
                 format!(
                     "image {}, {regs} register bytes, an area of {area} words:\n{fault}",
                     hex(&copy)
                 )
-            })?;
-            tally.damaged += 1;
-            tally.taken += open.is_some() as usize;
+            })?);
         }
+        tally.damaged += 1;
+        tally.calls += answers.len();
+        tally.taken += answers.contains(&(0, 0)) as usize;
+        // The last in memory as the image asks for it.
+        tally.valueless.add(&copy, answers[answers.len() - 1])?;
     }
     Ok(())
 }
@@ -302,9 +312,10 @@ pub fn compare_all(n: u64, seed: u64) -> Result<String, String> {
         }
     }
     let cases = listed(&boundaries()?)?;
-    let Tally { opened, fed_on, damaged, taken } = tally;
+    let Tally { opened, fed_on, damaged, calls, taken, valueless } = tally;
     Ok(format!(
-        "images: {opened} opened in three forms and {fed_on} fed on; \
-         {damaged} damaged ones, {taken} of them opened, the others refused as the model says; {cases} boundaries beside their neighbours"
+        "images: {opened} opened in three forms and {fed_on} fed on; {cases} boundaries beside their neighbours\n\
+         damaged images: {damaged}, in {calls} calls: all that we open the Rust opens, alike: {taken}; the others refused as the model says; \
+         of these {valueless}"
     ))
 }

@@ -14,7 +14,7 @@ use Rattle.sketch_feed.proofs.Batch.{ready}
 use Rattle.image_list.specs.Read.{couponsAt}
 use Rattle.image_list.specs.declared.Coupons.{Coupons}
 use Rattle.model.proofs.image.ListRungs.{coupons-long}
-use Rattle.image_list.proofs.Counted.{from-on}
+use Rattle.model.proofs.packing.ByteLists.{from-on}
 use Rattle.image_feed.proofs.Outcomes.{by-sketch, by-preamble, by-coupons, fed-as}
 use borrow.Author.Needs.{needs}
 use Rattle.image_feed.proofs.feed_image.Statement.{statement}

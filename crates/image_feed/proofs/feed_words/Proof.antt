@@ -7,7 +7,7 @@ use denote.Ref.{now}
 use Rattle.model.specs.Packed.{unpacked}
 use Rattle.model.specs.Calls.{fedOut, batchOf}
 use Rattle.model.proofs.packing.Packing.{length-unpacked}
-use Rattle.image_list.proofs.Counted.{from-on}
+use Rattle.model.proofs.packing.ByteLists.{from-on}
 use Rattle.image_feed.proofs.Feeding as feeding
 use borrow.Author.Needs.{needs}
 use Rattle.image_feed.proofs.feed_words.Statement.{statement}

@@ -13,7 +13,8 @@ use Rattle.model.proofs.table.FirstLaws.{first-le}
 use Rattle.image_list.specs.Read.{couponsAt}
 use Rattle.image_list.specs.declared.Coupons.{Coupons}
 use Rattle.model.proofs.image.ListRungs.{preamble-long, short-words, empty-word, too-fine, coupons-right}
-use Rattle.image_list.proofs.Counted.{from-on, count-small}
+use Rattle.model.proofs.packing.ByteLists.{from-on}
+use Rattle.image_list.proofs.Counted.{count-small}
 use borrow.Author.Needs.{needs}
 use Rattle.image_list.proofs.check.Statement.{statement}
 use Rattle.image_list.proofs.check.Tie as tie

@@ -10,7 +10,8 @@ use Rattle.model.specs.Packed.{slotAt}
 use Rattle.image_list.specs.Read.{layoutAs}
 use Rattle.image_list.specs.declared.Layout.{Layout}
 use Rattle.model.proofs.image.ListRungs.{preamble-long}
-use Rattle.image_list.proofs.Counted.{from-on, byte-inside, byte-count, word-inside, word-count}
+use Rattle.model.proofs.packing.ByteLists.{from-on}
+use Rattle.image_list.proofs.Counted.{byte-inside, byte-count, word-inside, word-count}
 use borrow.Author.Needs.{needs}
 use Rattle.image_list.proofs.coupons_in.Statement.{statement}
 use Rattle.image_list.proofs.coupons_in.Tie as tie

@@ -72,7 +72,7 @@ module _ {base low : ℕ} {R t : List ℕ} (ok : Sized base (length R)) (small :
   pub rise-words : Makable (keeps (suc low + 15) t)
   rise-words =
       makable (omega (arith, keeps-few (suc low + 15) t (omega arith), table-few ta (ok .few), ok .few))
-      (λ x m z. let r = keeps-from (suc low + 15) t x m in omega (arith, r .1)) (sifted-distinct _ t (no-slot-twice t (shape-good (ta .shape))))
+      (λ x m z. let r = keeps-from (suc low + 15) t x m in omega (arith, r .1)) (sifted-distinct _ slot t (no-slot-twice t (shape-good (ta .shape))))
 
   pub table-rise : TableAt base (suc low) R (risen base (suc low) t)
   unfolding risen

@@ -8,15 +8,17 @@ use native.Mathlib.Nat.{not-suc-le-zero, le-of-suc-le-suc}
 use native.Mathlib.Decide.{decLt, ℕ-discrete}
 use native.Mathlib.Omega.{arith}
 use lib.ListN.{length, getD, take}
+use borrow.Author.Tests.{ne-eqb}
 use Rattle.model.specs.Coupon.{value, home, isEmpty}
 use Rattle.model.specs.Registers.{countOf}
 use Rattle.model.specs.Table.{filled}
 use Rattle.model.specs.Answers.{Said, said}
 use Rattle.model.specs.Faults.{listed, auxFault}
-use Rattle.model.specs.Claims.{EntryAt, EmptyAt, ListedAt, TwiceAt, InOne, Listed, Entries, AuxNone}
+use Rattle.model.specs.Claims.{EntryAt, EmptyAt, ListedAt, TwiceAt, RightTo, InOne, Listed, Entries, AuxNone}
 use Rattle.model.specs.declared.Sketch.{Sketch}
 use Rattle.model.proofs.table.FirstLaws.{true-not-false}
-use Rattle.model.proofs.table.Sifted.{sifted-none, zero-empty, filled-in, filled-out}
+use Rattle.model.proofs.table.Sifted.{sifted-none, sifted-distinct, zero-empty, filled-in, filled-out, filled-from}
+use Rattle.model.proofs.table.Grown.{DistinctBy}
 use Rattle.model.proofs.image.Faults.{Finds, an-empty, a-twice, a-low, a-count, a-slot, a-none, finds, listed-tells}
 
 -- no two entries have one slot of k
@@ -37,6 +39,10 @@ at ws i = getD ws i 0
 abbrev rank : List ℕ → ℕ → ℕ
 rank ws p = length (filled (take p ws))
 
+-- what is left is an entry
+pub filled-entry : (ws : List ℕ) (i : ℕ) → i < length (filled ws) → EntryAt (filled ws) i
+filled-entry ws i l = ne-eqb _ 0 (filled-from ws (at (filled ws) i) (i, l, refl) .1)
+
 -- words of which none is empty are all entries
 pub filled-all : (ws : List ℕ) → ((i : ℕ) → i < length ws → EntryAt ws i) → filled ws ≡ ws
 filled-all [] h = sifted-none _
@@ -48,20 +54,8 @@ pub record From (ws : List ℕ) (x : ℕ) : Type 0 where
   pub is : getD ws place 0 ≡ x
   pub entry : EntryAt ws place
 
-later : {ws : List ℕ} {x : ℕ} (w : ℕ) → From ws x → From (w ∷ ws) x
-later w h = record { place = suc (h .place); inside = suc-le-suc (h .inside); is = h .is; entry = h .entry }
-
-from : (ws : List ℕ) (i : ℕ) → i < length (filled ws) → From ws (at (filled ws) i)
-from [] i l = absurd (not-suc-le-zero (rw sifted-none at l))
-from (w ∷ ws) i l = go (from ws) (isEmpty w) refl i l
-  where
-    head : (i : ℕ) → ((j : ℕ) → j < length (filled ws) → From ws (at (filled ws) j)) → isEmpty w ≡ false → i < suc (length (filled ws)) → From (w ∷ ws) (at (w ∷ filled ws) i)
-    head zero ih e l = record { place = 0; inside = suc-le-suc zero-le; is = refl; entry = e }
-    head (suc j) ih e l = later w (ih j (le-of-suc-le-suc l))
-
-    go : ((j : ℕ) → j < length (filled ws) → From ws (at (filled ws) j)) → (b : Bool) → isEmpty w ≡ b → (i : ℕ) → i < length (filled (w ∷ ws)) → From (w ∷ ws) (at (filled (w ∷ ws)) i)
-    go ih true e i l = let k = filled-out w ws e in rw k (later w (ih i (rw k at l)))
-    go ih false e i l = let k = filled-in w ws e in rw k (head i ih e (rw k at l))
+pub from : (ws : List ℕ) (i : ℕ) → i < length (filled ws) → From ws (at (filled ws) i)
+from ws i l = let r = filled-from ws (at (filled ws) i) (i, l, refl) in record { place = r .0 .0; inside = r .0 .1; is = r .0 .2; entry = ne-eqb _ 0 (λ z. r .1 (sym (r .0 .2) ∙ z)) }
 
 pub record To (ws : List ℕ) (p : ℕ) : Type 0 where
   pub inside : rank ws p < length (filled ws)
@@ -89,21 +83,30 @@ rises (w ∷ ws) (suc j) (suc i) l e = go (rises ws j i (le-of-suc-le-suc l) e) 
 
 -- entries of one slot are one, if no word is twice
 apart-kept : (k : ℕ) (ws : List ℕ) → ((i j : ℕ) → i < length ws → j < i → EntryAt ws i → EntryAt ws j → home k (at ws j) ≡ home k (at ws i) → ⊥) → Apart k (filled ws)
-apart-kept k [] h = λ i j li lj e. absurd (not-suc-le-zero (rw sifted-none at li))
-apart-kept k (w ∷ ws) h = go (apart-kept k ws (λ a b l d. h (suc a) (suc b) (suc-le-suc l) (suc-le-suc d))) (isEmpty w) refl
+apart-kept k ws h i j li lj = sifted-distinct _ (home k) ws once i j li lj (some i li) (some j lj)
   where
-    new : isEmpty w ≡ false → (j : ℕ) → j < length (filled ws) → home k w ≡ home k (at (filled ws) j) → ⊥
-    new x j l q = let s = from ws j l in h (suc (s .place)) 0 (suc-le-suc (s .inside)) (suc-le-suc zero-le) (s .entry) x (q ∙ ap (home k) (sym (s .is)))
+    once : DistinctBy (home k) ws
+    once i j li lj hi hj e = go (decLt i j) (decLt j i)
+      where
+        go : Dec (i < j) → Dec (j < i) → i ≡ j
+        go (yes l) m = absurd (h j i lj l (ne-eqb _ 0 hj) (ne-eqb _ 0 hi) e)
+        go (no l) (yes m) = absurd (h i j li m (ne-eqb _ 0 hi) (ne-eqb _ 0 hj) (sym e))
+        go (no l) (no m) = omega arith
 
-    head : Apart k (filled ws) → isEmpty w ≡ false → Apart k (w ∷ filled ws)
-    head ih x zero zero li lj q = refl
-    head ih x zero (suc j) li lj q = absurd (new x j (le-of-suc-le-suc lj) q)
-    head ih x (suc i) zero li lj q = absurd (new x i (le-of-suc-le-suc li) (sym q))
-    head ih x (suc i) (suc j) li lj q = ap suc (ih i j (le-of-suc-le-suc li) (le-of-suc-le-suc lj) q)
+    some : (i : ℕ) → i < length (filled ws) → at (filled ws) i ≡ 0 → ⊥
+    some i l = filled-from ws (at (filled ws) i) (i, l, refl) .1
 
-    go : Apart k (filled ws) → (b : Bool) → isEmpty w ≡ b → Apart k (filled (w ∷ ws))
-    go ih true x = rw (filled-out w ws x) ih
-    go ih false x = rw (filled-in w ws x) (head ih x)
+-- what entries are where no word is wrong
+module _ (compact : Bool) (k low : ℕ) (ws : List ℕ) (right : RightTo compact k low ws (length ws)) where
+  pub right-high : (i : ℕ) → i < length (filled ws) → low + 15 ≤ value (getD (filled ws) i 0)
+  right-high i l = let p = from ws i l in let d = go (p .place) (p .inside) (p .entry) (decLt (value (at ws (p .place))) (low + 15)) in rw (p .is) at d
+    where
+      go : (j : ℕ) → j < length ws → EntryAt ws j → Dec (value (at ws j) < low + 15) → low + 15 ≤ value (at ws j)
+      go j m x (yes d) = absurd (right j m .1 .1 (x, d))
+      go j m x (no d) = omega arith
+
+  pub right-apart : Apart k (filled ws)
+  right-apart = apart-kept k ws (λ i j l d y z h. right i l .1 .0 (y, (j, d, z, h)))
 
 -- ---- nothing is wrong exactly where the entries are what they should be
 module _ (compact : Bool) (s : Sketch) (ns ws : List ℕ) where
@@ -137,8 +140,8 @@ module _ (compact : Bool) (s : Sketch) (ns ws : List ℕ) where
       go q (a-slot t r c l x m e) = absurd (off 24 t e q)
       go q (a-none r c x e) = (
         record {
-          high = λ i l. let p = from ws i l in let d : s .«cur_min» + 15 ≤ value (at ws (p .place)) = high (p .place) (p .inside) (p .entry) in rw (p .is) at d;
-          apart = apart-kept k ws (λ i j l d y z h. r i l .1 .0 (y, (j, d, z, h)));
+          high = right-high compact k (s .«cur_min») ws r;
+          apart = right-apart compact k (s .«cur_min») ws r;
           count = c;
           listed = λ i l h. fifteen i l (entry-list i h) (ℕ-discrete (getD ns i 0) 15);
           lists = λ i l h. list-entry i (lists i l h);
@@ -146,13 +149,6 @@ module _ (compact : Bool) (s : Sketch) (ns ws : List ℕ) where
         λ i l. r i l .0,
       )
         where
-          high : (i : ℕ) → i < length ws → EntryAt ws i → s .«cur_min» + 15 ≤ value (at ws i)
-          high i l y = big (decLt (value (at ws i)) (s .«cur_min» + 15))
-            where
-              big : Dec (value (at ws i) < s .«cur_min» + 15) → s .«cur_min» + 15 ≤ value (at ws i)
-              big (yes d) = absurd (r i l .1 .1 (y, d))
-              big (no d) = omega arith
-
           fifteen : (i : ℕ) → i < k → ListedAt k ws (length ws) i → Dec (getD ns i 0 ≡ 15) → getD ns i 0 ≡ 15
           fifteen i l h (yes d) = d
           fifteen i l h (no d) = absurd (x i l (inr (d, h)))

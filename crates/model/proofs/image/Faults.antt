@@ -58,13 +58,13 @@ module _ (compact : Bool) (k low : ℕ) (ws : List ℕ) where
   at i = getD ws i 0
 
   -- what its fault's number says of a word
-  data Says (i : ℕ) (n : ℕ) : Type 0 where
+  pub data Says (i : ℕ) (n : ℕ) : Type 0 where
     right : RightAt compact k low ws i → n ≡ 0 → Says i n
     empty : EmptyAt compact ws i → n ≡ 21 → Says i n
     twice : TwiceAt k ws i → n ≡ 22 → Says i n
     low-one : (TwiceAt k ws i → ⊥) → LowAt low ws i → n ≡ 23 → Says i n
 
-  fault-says : (i : ℕ) → Says i (faultAt compact k low ws i)
+  pub fault-says : (i : ℕ) → Says i (faultAt compact k low ws i)
   unfolding faultAt
   fault-says i = go (isEmpty (at i)) refl compact refl (listed k ws i (home k (at i))) refl (leb (low + 15) (value (at i))) refl
     where
@@ -77,7 +77,7 @@ module _ (compact : Bool) (k low : ℕ) (ws : List ℕ) where
           right ((λ p. true-not-false (p .1) e), ((λ p. listed-tells k ws (home k (at i)) i .1 g (p .1)), λ p. omega (arith, p .1, leb-true (low + 15) (value (at i)) h))) refl
       go false e d f false g false h = low-one (λ p. listed-tells k ws (home k (at i)) i .1 g (p .1)) (e, omega (arith, leb-false (low + 15) (value (at i)) h)) refl
 
-  right-of : (i : ℕ) → ltb 0 (faultAt compact k low ws i) ≡ false → RightAt compact k low ws i
+  pub right-of : (i : ℕ) → ltb 0 (faultAt compact k low ws i) ≡ false → RightAt compact k low ws i
   right-of i e = go (fault-says i)
     where
       z : faultAt compact k low ws i ≤ 0
@@ -90,7 +90,7 @@ module _ (compact : Bool) (k low : ℕ) (ws : List ℕ) where
       go (low-one t p q) = absurd (omega (arith, z))
 
   -- the first that is wrong is one word
-  one-first : (i j : ℕ) → RightTo compact k low ws i → RightTo compact k low ws j → (RightAt compact k low ws i → ⊥) → (RightAt compact k low ws j → ⊥) → i ≡ j
+  pub one-first : (i j : ℕ) → RightTo compact k low ws i → RightTo compact k low ws j → (RightAt compact k low ws i → ⊥) → (RightAt compact k low ws j → ⊥) → i ≡ j
   one-first i j ri rj wi wj = go (decLt i j) (decLt j i)
     where
       go : Dec (i < j) → Dec (j < i) → i ≡ j

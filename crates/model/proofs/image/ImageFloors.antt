@@ -35,7 +35,7 @@ use Rattle.model.proofs.registers.Floors.{Floored, floors-words, floore
 -- the empty words say nothing
 kept-words : {b : ℕ} {R F : List ℕ} (l : List ℕ) → Floored b R F (entriesIn l) → Floored b R F (wordsIn l)
 unfolding entriesIn
-kept-words l f = floored-as f (λ w m h. (w, filled-from (wordsIn l) w m .0, refl, refl)) (λ u m h. (u, filled-to (wordsIn l) u m h, refl, refl))
+kept-words l f = floored-as f (λ w m h. (w, filled-from (wordsIn l) w m .0, refl, refl)) (λ u m h. (u, filled-to (wordsIn l) u m (λ z. omega arith), refl, refl))
 
 -- the words of the table that open makes are the entries, each by its slot modulo k
 module _ (s : Sketch) (regs es : List ℕ) (listed : AuxFits (2 ^ s .«lg_k») (s .«cur_min») (s .«aux_count») (cells s regs) es) (ok : Sized (baseFor (s .«lg_k»)) (2 ^ s .«lg_k»)) where

@@ -62,8 +62,8 @@ module _ (s : Sketch) (regs aux : List ℕ) (f : TableFits s regs aux) where
       record {
         each = λ i l. let w = fits-at i l in (w .high, rw (at-home i l) (w .token));
         apart = λ i j li lj e.
-            sifted-distinct _ t (no-slot-twice t reached) i j li lj (some i li) (some j lj) (sym (at-home i li) ∙ e ∙ at-home j lj);
-        many = filled-used t (λ x m h. let w = fits-table x m h .high in omega arith) ∙ f .many;
+            sifted-distinct _ slot t (no-slot-twice t reached) i j li lj (some i li) (some j lj) (sym (at-home i li) ∙ e ∙ at-home j lj);
+        many = filled-used t ∙ f .many;
         marked = f .marked;
       }
     where
@@ -96,7 +96,7 @@ module _ (s : Sketch) (regs aux : List ℕ) (f : TableFits s regs aux) where
         go (inr k) (inl e) = absurd (let z : used u ≡ 0 = ap used e in omega (arith, k .0, made-used ws ok can, listing-listed .many, f .many))
         go (inr k) (inr k′) =
             same-words t u (kept-room _ t (k .1) (ok .four)) (kept-room _ u (k′ .1) (ok .four)) reached (k′ .1 .good)
-            (λ x h m. made-to ws ok can x h (filled-to t x m (let w = fits-table x m h .high in omega arith)))
+            (λ x h m. made-to ws ok can x h (filled-to t x m h))
             (λ x h m. filled-from t x (made-from ws ok can x h m) .0) sl
 
     pub listing-registers : (low : ℕ) (bytes : List ℕ) → registers4 low (madeOf s (listing s aux)) bytes ≡ registers4 low (tableIn s aux) bytes

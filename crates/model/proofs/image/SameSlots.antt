@@ -1,40 +1,39 @@
 -- The slots that entries list and those of the nibbles 15 are one set exactly if each entry's nibble is 15 and there are as many of both. Assumes nothing.
 use mathlib.Core.Path.{_≡_, refl, sym, ap, _∙_}
 use mathlib.Core.Bool.{Bool, true, false, not}
-use mathlib.Core.List.{List, [], _∷_, map}
-use Prim.Native.Nat.{ℕ, suc, _+_, _^_, _<_, zero-le, suc-le-suc}
+use mathlib.Core.List.{List, [], map}
+use Prim.Native.Nat.{ℕ, _+_, _^_, _<_}
 use native.Mathlib.Nat.{mod-lt, not-suc-le-zero}
 use native.Mathlib.Omega.{arith}
 use lib.Dec.{eqb}
 use lib.ListN.{length, getD, drop, length-map}
 use lib.Pow.{pow-pos}
-use borrow.Author.Tests.{eq-eqb, ne-eqb, eqb-false, not-true}
+use borrow.Author.Tests.{eq-eqb, ne-eqb, eqb-false, le-ltb, not-true}
 use Rattle.model.specs.Pick.{pick}
 use Rattle.model.specs.Coupon.{value, slot, home}
 use Rattle.model.specs.Packed.{unpacked}
 use Rattle.model.specs.Registers.{countOf}
 use Rattle.model.specs.Table.{used, filled}
 use Rattle.model.specs.Answers.{Said, said}
-use Rattle.model.specs.Faults.{auxFault}
+use Rattle.model.specs.Faults.{faultAt, auxFault}
 use Rattle.model.specs.Sketch.{bytesOf, cells}
 use Rattle.model.specs.Image.{homed, sketchIn, regsIn, compactIn, wordCount, wordsIn, entriesIn, auxIn}
-use Rattle.model.specs.Claims.{EntryAt, Listed, Entries}
+use Rattle.model.specs.Claims.{EntryAt, RightTo, Listed, Entries}
 use Rattle.model.specs.declared.Sketch.{Sketch}
 use Rattle.model.proofs.order.Tells.{tells-one, tells-eq}
 use Rattle.model.proofs.packing.Packing.{unpacked-none}
-use Rattle.model.proofs.table.Sifted.{sifted-none}
+use Rattle.model.proofs.table.Sifted.{sifted-none, filled-used}
 use Rattle.model.proofs.table.Counting.{marks, Marked, marks-same, marks-used, marks-all, count-marks}
 use Rattle.model.proofs.table.FirstLaws.{true-not-false}
 use Rattle.model.proofs.order.Tests.{cells-long}
 use Rattle.model.proofs.registers.Lowest.{count-none, count-some}
-use Rattle.model.proofs.image.Entries.{Apart, AuxFits, none-entries, entries-none}
+use Rattle.model.proofs.image.Entries.{Apart, AuxFits, filled-all, from, right-high, right-apart, none-entries, entries-none}
+use Rattle.model.proofs.image.Faults.{right-of}
 use Rattle.model.proofs.image.Taken.{map-at, taken-slot, taken-value}
 
 -- words of which none is empty are all used
 used-all : (ws : List ℕ) → ((i : ℕ) → i < length ws → getD ws i 0 ≡ 0 → ⊥) → used ws ≡ length ws
-unfolding used
-used-all [] h = refl
-used-all (w ∷ ws) h = rw (ne-eqb w 0 (h 0 (suc-le-suc zero-le))) (ap suc (used-all ws (λ i l. h (suc i) (suc-le-suc l))))
+used-all ws h = sym (filled-used ws) ∙ ap length (filled-all ws (λ i l. ne-eqb (getD ws i 0) 0 (h i l)))
 
 -- a slot is listed, and its nibble is 15
 abbrev has : ℕ → List ℕ → ℕ → Bool
@@ -122,6 +121,24 @@ module _ (s : Sketch) (nibbles es : List ℕ) (long : length nibbles ≡ 2 ^ s .
         (λ i l. tells-one _ _ (tells-eq (getD nibbles i 0) 15) ((λ q. h .listed i l (has-lists k es i q)), λ q e. true-not-false (lists-has k es i (h .lists i l e)) q))
         ∙ sym (entries-marks k es (pow-pos (s .«lg_k»)) (λ j d. omega (arith, h .high j d)) (h .apart)) ∙ h .count;
   }
+
+-- nothing is wrong with any word, each entry's nibble is 15, and there are as many of both: then nothing is wrong, and no slot has to be looked at
+pub even-none : (compact : Bool) (s : Sketch) (ns ws : List ℕ) → length ns ≡ 2 ^ s .«lg_k» → ((i : ℕ) → i < length ws → faultAt compact (2 ^ s .«lg_k») (s .«cur_min») ws i ≡ 0)
+    → ((i : ℕ) → i < length ws → EntryAt ws i → getD ns (home (2 ^ s .«lg_k») (getD ws i 0)) 0 ≡ 15) → length (filled ws) ≡ s .«aux_count» → countOf 15 ns ≡ s .«aux_count»
+    → auxFault compact (2 ^ s .«lg_k») (s .«cur_min») (s .«aux_count») ws ns ≡ said 0 0
+even-none compact s ns ws long none evens many marked =
+    let k = 2 ^ s .«lg_k» in
+    let low = s .«cur_min» in
+    let right : RightTo compact k low ws (length ws) = λ i l. right-of compact k low ws i (le-ltb 0 (faultAt compact k low ws i) (omega (arith, none i l))) in
+    entries-none compact s ns ws
+    (fits-entries s ns (filled ws) long
+    (record {
+      each = λ i l. let p = from ws i l in (right-high compact k low ws right i l, ap (λ (w : ℕ). getD ns (home k w) 0) (sym (p .is)) ∙ evens (p .place) (p .inside) (p .entry));
+      apart = right-apart compact k low ws right;
+      many = many;
+      marked = marked;
+    }))
+    (λ i l. right i l .0)
 
 -- ---- in an image
 pub no-words : (l : List ℕ) → sketchIn l .«aux_count» ≡ 0 → wordCount l ≡ 0

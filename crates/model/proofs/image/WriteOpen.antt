@@ -2,15 +2,15 @@
 use mathlib.Core.Path.{_≡_, refl, sym, ap, _∙_, subst}
 use mathlib.Core.Bool.{true}
 use mathlib.Core.List.{List, _++_, append-assoc}
-use Prim.Native.Nat.{ℕ, _+_, _*_, _≤_, _<_, zero-le}
+use Prim.Native.Nat.{ℕ, _+_, _*_, _≤_, zero-le}
 use native.Mathlib.Decide.{ℕ-discrete}
 use native.Mathlib.Omega.{arith}
-use lib.ListN.{length, getD, drop}
+use lib.ListN.{length, drop}
 use borrow.Author.Tests.{eq-eqb}
 use Rattle.model.specs.Table.{baseFor, tableSize, filled}
 use Rattle.model.specs.Answers.{Said}
 use Rattle.model.specs.Four.{registers4}
-use Rattle.model.specs.Sketch.{bytesOf, areaOf, registers, Shaped, Good}
+use Rattle.model.specs.Sketch.{bytesOf, areaOf, tableIn, registers, Shaped, Good}
 use Rattle.model.specs.Check.{scratchFits}
 use Rattle.model.specs.Calls.{out}
 use Rattle.model.specs.Image.{header, imageIn, Written, writeOf, sketchIn, regsIn, wordCount, wordsIn, entriesIn, auxIn, openOf}
@@ -18,10 +18,9 @@ use Rattle.model.specs.Claims.{EntryAt, Again, Reopens}
 use Rattle.model.specs.declared.Sketch.{Sketch}
 use Rattle.model.proofs.order.Tells.{tells-true}
 use Rattle.model.proofs.table.Sizes.{sized}
-use Rattle.model.proofs.table.Sifted.{valued-full}
 use Rattle.model.proofs.order.Plain.{plain-cells}
 use Rattle.model.proofs.order.Tests.{Passes, TableFits, counts-tells, good-asks, table-tells}
-use Rattle.model.proofs.image.Entries.{filled-all}
+use Rattle.model.proofs.image.Entries.{filled-all, filled-entry}
 use Rattle.model.proofs.image.SameSlots.{no-words, aux-other, fits-aux}
 use Rattle.model.proofs.image.Taken.{made-in}
 use Rattle.model.proofs.order.Tests.{scratch-tells}
@@ -62,12 +61,9 @@ module _ (s : Sketch) (regs aux rest regs′ aux′ scratch′ : List ℕ) (g : 
   same-words : s .kind ≡ 4 → wordsIn l ≡ ws
   same-words four = over-words s R regs ws rest small (h .long) four (listing-small s regs aux (table four)) (listing-listed s regs aux (table four) .many)
 
-  none-empty : s .kind ≡ 4 → (i : ℕ) → i < length ws → EntryAt ws i
-  none-empty four i d = valued-full (getD ws i 0) (omega (arith, listing-listed s regs aux (table four) .each i d .0))
-
   same-entries : s .kind ≡ 4 → entriesIn l ≡ ws
   unfolding entriesIn
-  same-entries four = ap (λ (us : List ℕ). filled us) (same-words four) ∙ filled-all ws (none-empty four)
+  same-entries four = ap (λ (us : List ℕ). filled us) (same-words four) ∙ filled-all ws (filled-entry (tableIn s aux))
 
   -- ---- no rung refuses
   of-four : {P : Type 0} → (s .kind ≡ 4 → P) → sketchIn l .kind ≡ 4 → P
@@ -95,7 +91,7 @@ module _ (s : Sketch) (regs aux rest regs′ aux′ scratch′ : List ℕ) (g : 
   nothing-wrong : Dec (s .kind ≡ 4) → auxIn l .no ≡ 0
   nothing-wrong (yes e) =
       fits-aux l (ap (λ (r : Sketch). r .kind) same-record ∙ e) (rw (same-record, same-bytes, same-entries e) (listing-listed s regs aux (table e)))
-      (λ i d. subst (λ (us : List ℕ). EntryAt us i) (sym (same-words e)) (none-empty e i (rw (same-words e) at d)))
+      (λ i d. subst (λ (us : List ℕ). EntryAt us i) (sym (same-words e)) (filled-entry (tableIn s aux) i (rw (same-words e) at d)))
   nothing-wrong (no e) = ap (λ (f : Said). f .no) (aux-other l (λ q. e (sym (ap (λ (r : Sketch). r .kind) same-record) ∙ q)))
 
   opens : Opens l (length regs′) (length aux′) (length scratch′)

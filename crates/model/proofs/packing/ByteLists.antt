@@ -1,12 +1,12 @@
--- Which lists are lists of bytes: parts of one, and one behind another; and how many bytes packed cells have. Assumes nothing.
+-- Which lists are lists of bytes: parts of one, and one behind another; a list from a place on; and how many bytes packed cells have. Assumes nothing.
 use mathlib.Core.Path.{_≡_}
 use mathlib.Core.List.{List, [], _∷_, _++_}
-use Prim.Native.Nat.{ℕ, zero, suc, _+_, _^_, _<_}
+use Prim.Native.Nat.{ℕ, zero, suc, _+_, _-_, _^_, _<_}
 use native.Mathlib.Decide.{decLt}
 use native.Mathlib.Omega.{arith}
 use lib.Dec.{lit<}
-use lib.ListN.{length, getD, take, drop, length-take, List·getD-eq-default}
-use lib.Seq.{getD-take, getD-drop}
+use lib.ListN.{length, getD, take, drop, length-take, length-drop, List·getD-eq-default}
+use lib.Seq.{getD-take, getD-drop, take-all}
 use Rattle.model.specs.Packed.{Bytes, number, packed}
 use Rattle.model.proofs.packing.Digits.{length-digits}
 
@@ -17,6 +17,10 @@ at-all {c} l p h i = go (decLt i (length l))
     go : Dec (i < length l) → getD l i 0 < c
     go (yes d) = h i d
     go (no d) = rw (List·getD-eq-default l 0 {n = i} (omega arith)) p
+
+-- a list from a place on, as the code cuts it out
+pub from-on : (n : ℕ) (l : List ℕ) → take (length l - n) (drop n l) ≡ drop n l
+from-on n l = take-all (length l - n) (drop n l) (omega (arith, length-drop n l))
 
 pub bytes-drop : (n : ℕ) (l : List ℕ) → Bytes l → Bytes (drop n l)
 bytes-drop n l h i = rw getD-drop (h (n + i))

@@ -143,7 +143,7 @@ module _ (s : Sketch) (regs aux : List ℕ) (g : Good s regs aux) (e : s .kind �
         omega (arith, v, x .high, four.low-is s regs aux e g);
     apart = λ i j li lj q.
         let some : (n : ℕ) → n < length es → getD es n 0 ≡ 0 → ⊥ = λ n l z. let v : value (getD es n 0) ≡ 0 = rw z in omega (arith, keeps-from 1 (tableIn s aux) (getD es n 0) (n, l, refl) .1) in
-        sifted-distinct _ (tableIn s aux) distinct i j li lj (some i li) (some j lj) (sym (home-slot i li) ∙ q ∙ home-slot j lj);
+        sifted-distinct _ slot (tableIn s aux) distinct i j li lj (some i li) (some j lj) (sym (home-slot i li) ∙ q ∙ home-slot j lj);
   }
 
   pub counts-moved : (v : ℕ) → countOf v (registers s regs aux) + pick (eqb (s .«cur_min» + 15) v) (length (keeps 1 (tableIn s aux))) 0 ≡ countOf v (floors s regs) + countOf v (map value (keeps 1 (tableIn s aux)))

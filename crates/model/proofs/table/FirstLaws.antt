@@ -69,3 +69,11 @@ first-last p f h = go (decLt (first p f) f)
     go : Dec (first p f < f) → first p f ≡ f
     go (yes l) = absurd (true-not-false (first-holds p f l) (h (first p f) l))
     go (no l) = omega (arith, first-le p f)
+
+-- it fails below n and passes at n, unless that is the end
+pub first-by : (p : ℕ → Bool) (f n : ℕ) → n ≤ f → (n < f → p n ≡ true) → ((m : ℕ) → m < n → p m ≡ false) → first p f ≡ n
+first-by p f n l t b = go (decLt n f)
+  where
+    go : Dec (n < f) → first p f ≡ n
+    go (yes k) = first-is p f n k (t k) b
+    go (no k) = first-last p f (λ m d. b m (omega arith)) ∙ omega arith

@@ -16,9 +16,13 @@ use Rattle.model.proofs.table.Search.{place-lt}
 use Rattle.model.proofs.table.Refill.{put, put-empty, put-word, room-of, used-put, length-put, used-refill, used-set-empty, length-refill, used-zeros, double-size}
 use Rattle.model.proofs.table.Order.{fresh-good, fresh-new, fresh-old, fresh-inv, reads-none, no-slot-twice}
 
--- no slot stands twice in a list of words
+-- no two words of a list that are not empty have the same f
+abbrev pub DistinctBy : (ℕ → ℕ) → List ℕ → Type 0
+DistinctBy f ws = (i j : ℕ) → i < length ws → j < length ws → (getD ws i 0 ≡ 0 → ⊥) → (getD ws j 0 ≡ 0 → ⊥) → f (getD ws i 0) ≡ f (getD ws j 0) → i ≡ j
+
+-- no slot stands twice
 abbrev pub Distinct : List ℕ → Type 0
-Distinct ws = (i j : ℕ) → i < length ws → j < length ws → (getD ws i 0 ≡ 0 → ⊥) → (getD ws j 0 ≡ 0 → ⊥) → slot (getD ws i 0) ≡ slot (getD ws j 0) → i ≡ j
+Distinct ws = DistinctBy slot ws
 
 -- the words ws can be put into the table t, one after the other
 pub record Ready (t ws : List ℕ) : Type 0 where

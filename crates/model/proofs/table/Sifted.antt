@@ -1,5 +1,5 @@
 -- The words of a list that pass a test: which they are, and how many at most. Then for the two tests that there are: the words whose value is at
--- least a limit, and the words of an image that are not empty. Assumes nothing.
+-- least a limit, and the words that are not empty. Assumes nothing.
 use mathlib.Core.Path.{_≡_, refl, sym, _∙_, ap, subst}
 use mathlib.Core.Bool.{Bool, true, false, not}
 use mathlib.Core.Logic.{_⊎_, inl, inr}
@@ -9,13 +9,13 @@ use native.Mathlib.Nat.{le-of-suc-le-suc, not-suc-le-zero}
 use native.Mathlib.Omega.{arith}
 use lib.Dec.{eqb}
 use lib.ListN.{length, getD, replicate}
-use borrow.Author.Tests.{eqb-true, eqb-false, ne-eqb, le-leb, lt-leb, leb-true}
+use borrow.Author.Tests.{eqb-true, eqb-false, ne-eqb, not-true, le-leb, lt-leb, leb-true}
 use Rattle.model.specs.Pick.{pick}
-use Rattle.model.specs.Coupon.{slot, value, isEmpty}
+use Rattle.model.specs.Coupon.{value, isEmpty}
 use Rattle.model.specs.Table.{Member, used, sifted, keeps, filled}
 use Rattle.model.proofs.table.FirstLaws.{true-not-false}
 use Rattle.model.proofs.table.Members.{member-head, member-tail, member-cases, member-none}
-use Rattle.model.proofs.table.Grown.{Distinct}
+use Rattle.model.proofs.table.Grown.{DistinctBy}
 
 module _ (p : ℕ → Bool) where
   pub sifted-none : sifted p [] ≡ []
@@ -66,24 +66,24 @@ module _ (p : ℕ → Bool) where
       go false e ih (inl q) = absurd (true-not-false (ap p (sym q) ∙ h) e)
       go false e ih (inr k) = ih k
 
-  pub sifted-distinct : (t : List ℕ) → Distinct t → Distinct (sifted p t)
+  pub sifted-distinct : (f : ℕ → ℕ) (t : List ℕ) → DistinctBy f t → DistinctBy f (sifted p t)
   unfolding sifted
-  sifted-distinct [] d = λ i j li lj hi hj e. absurd (not-suc-le-zero li)
-  sifted-distinct (w ∷ ws) d = go (p w) (sifted-distinct ws (λ i j li lj hi hj e. let q : suc i ≡ suc j = d (suc i) (suc j) (suc-le-suc li) (suc-le-suc lj) hi hj e in omega arith))
+  sifted-distinct f [] d = λ i j li lj hi hj e. absurd (not-suc-le-zero li)
+  sifted-distinct f (w ∷ ws) d = go (p w) (sifted-distinct f ws (λ i j li lj hi hj e. let q : suc i ≡ suc j = d (suc i) (suc j) (suc-le-suc li) (suc-le-suc lj) hi hj e in omega arith))
     where
-      apart : (k : ℕ) → k < length (sifted p ws) → (w ≡ 0 → ⊥) → (getD (sifted p ws) k 0 ≡ 0 → ⊥) → slot w ≡ slot (getD (sifted p ws) k 0) → ⊥
+      apart : (k : ℕ) → k < length (sifted p ws) → (w ≡ 0 → ⊥) → (getD (sifted p ws) k 0 ≡ 0 → ⊥) → f w ≡ f (getD (sifted p ws) k 0) → ⊥
       apart k l hw hk e =
           let m : Member ws (getD (sifted p ws) k 0) = sifted-from ws (getD (sifted p ws) k 0) (k, l, refl) .0 in
-          let q : zero ≡ suc (m .0) = d zero (suc (m .0)) (suc-le-suc zero-le) (suc-le-suc (m .1)) hw (λ z. hk (sym (m .2) ∙ z)) (e ∙ ap slot (sym (m .2))) in
+          let q : zero ≡ suc (m .0) = d zero (suc (m .0)) (suc-le-suc zero-le) (suc-le-suc (m .1)) hw (λ z. hk (sym (m .2) ∙ z)) (e ∙ ap f (sym (m .2))) in
           omega arith
 
-      both : Distinct (sifted p ws) → Distinct (w ∷ sifted p ws)
+      both : DistinctBy f (sifted p ws) → DistinctBy f (w ∷ sifted p ws)
       both r zero zero li lj hi hj e = refl
       both r zero (suc j) li lj hi hj e = absurd (apart j (le-of-suc-le-suc lj) hi hj e)
       both r (suc i) zero li lj hi hj e = absurd (apart i (le-of-suc-le-suc li) hj hi (sym e))
       both r (suc i) (suc j) li lj hi hj e = ap suc (r i j (le-of-suc-le-suc li) (le-of-suc-le-suc lj) hi hj e)
 
-      go : (b : Bool) → Distinct (sifted p ws) → Distinct (pick b (w ∷ sifted p ws) (sifted p ws))
+      go : (b : Bool) → DistinctBy f (sifted p ws) → DistinctBy f (pick b (w ∷ sifted p ws) (sifted p ws))
       go true r = both r
       go false r = r
 
@@ -106,18 +106,6 @@ module _ (p : ℕ → Bool) where
       go true e false f ih = suc-le-suc ih
       go true e true f ih = absurd (true-not-false e (ap p (eqb-true w 0 f) ∙ h))
 
-  -- and where all others do, as many
-  pub sifted-used : (t : List ℕ) → p 0 ≡ false → ((x : ℕ) → Member t x → (x ≡ 0 → ⊥) → p x ≡ true) → length (sifted p t) ≡ used t
-  unfolding sifted used
-  sifted-used [] h all = refl
-  sifted-used (w ∷ ws) h all = go (p w) refl (eqb w 0) refl (sifted-used ws h (λ x m. all x (member-tail w x ws m)))
-    where
-      go : (b : Bool) → p w ≡ b → (z : Bool) → eqb w 0 ≡ z → length (sifted p ws) ≡ used ws → length (pick b (w ∷ sifted p ws) (sifted p ws)) ≡ pick z (used ws) (suc (used ws))
-      go true e true f ih = absurd (true-not-false e (ap p (eqb-true w 0 f) ∙ h))
-      go true e false f ih = ap suc ih
-      go false e true f ih = ih
-      go false e false f ih = absurd (true-not-false (all w (member-head w ws) (eqb-false w 0 f)) e)
-
 -- ---- the words whose value is at least a limit
 pub keeps-in : (limit w : ℕ) (ws : List ℕ) → limit ≤ value w → keeps limit (w ∷ ws) ≡ w ∷ keeps limit ws
 keeps-in limit w ws h = sifted-in _ w ws (le-leb limit (value w) h)
@@ -134,12 +122,9 @@ keeps-to limit t x m h = sifted-to _ t x m (le-leb limit (value x) h)
 pub keeps-few : (limit : ℕ) (t : List ℕ) → 0 < limit → length (keeps limit t) ≤ used t
 keeps-few limit t h = sifted-few _ t (lt-leb limit 0 h)
 
--- ---- the words of an image that are not empty: all that is known of emptiness is that the word 0 is empty, and that a word with a value is not
+-- ---- the words that are not empty
 pub zero-empty : isEmpty 0 ≡ true
 zero-empty = refl
-
-pub valued-full : (w : ℕ) → 1 ≤ value w → isEmpty w ≡ false
-valued-full w h = ne-eqb (value w) 0 (λ z. omega arith)
 
 pub filled-in : (w : ℕ) (ws : List ℕ) → isEmpty w ≡ false → filled (w ∷ ws) ≡ w ∷ filled ws
 filled-in w ws e = sifted-in _ w ws (ap not e)
@@ -151,11 +136,17 @@ pub filled-front : (t : List ℕ) (n : ℕ) → filled (t ++ replicate n 0) ≡ 
 filled-front t n = sifted-front _ t n (ap not zero-empty)
 
 pub filled-from : (t : List ℕ) (x : ℕ) → Member (filled t) x → Member t x × (x ≡ 0 → ⊥)
-filled-from t x m = let r = sifted-from _ t x m in (r .0, λ z. true-not-false (r .1) (ap (λ (w : ℕ). not (isEmpty w)) z ∙ ap not zero-empty))
+filled-from t x m = let r = sifted-from _ t x m in (r .0, eqb-false x 0 (not-true _ (r .1)))
 
-pub filled-to : (t : List ℕ) (x : ℕ) → Member t x → 1 ≤ value x → Member (filled t) x
-filled-to t x m h = sifted-to _ t x m (ap not (valued-full x h))
+pub filled-to : (t : List ℕ) (x : ℕ) → Member t x → (x ≡ 0 → ⊥) → Member (filled t) x
+filled-to t x m h = sifted-to _ t x m (ap not (ne-eqb x 0 h))
 
--- where only the empty words are of value 0, as many as are used
-pub filled-used : (t : List ℕ) → ((x : ℕ) → Member t x → (x ≡ 0 → ⊥) → 1 ≤ value x) → length (filled t) ≡ used t
-filled-used t h = sifted-used _ t (ap not zero-empty) (λ x m s. ap not (valued-full x (h x m s)))
+-- as many as are used
+pub filled-used : (t : List ℕ) → length (filled t) ≡ used t
+unfolding sifted used
+filled-used [] = refl
+filled-used (w ∷ ws) = go (isEmpty w) (filled-used ws)
+  where
+    go : (b : Bool) → length (filled ws) ≡ used ws → length (pick (not b) (w ∷ filled ws) (filled ws)) ≡ pick b (used ws) (suc (used ws))
+    go true ih = ih
+    go false ih = ap suc ih
