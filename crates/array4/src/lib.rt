@@ -1,4 +1,6 @@
 // Kind 4's feeding, after array4.rs: a register is a nibble above cur_min, and one that a nibble can't hold stands in the exception table.
+#![tactic(auto)]
+
 ghost use Rattle.std.specs.Prelude.{◌≡◌, ◌-◌, ◌<◌, eqb, ltb, length};
 ghost use Rattle.model.specs.Pick.{pick};
 ghost use Rattle.model.specs.Table.{base_for};

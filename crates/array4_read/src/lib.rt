@@ -1,4 +1,6 @@
 // What only reads kind 4, after array4.rs: one register, and the check of the exception table.
+#![tactic(auto)]
+
 ghost use Rattle.std.specs.Prelude.{◌≡◌, get_or};
 ghost use Rattle.model.specs.Pick.{Tells};
 ghost use Rattle.model.specs.Table.{base_for, table_size};

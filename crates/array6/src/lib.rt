@@ -1,5 +1,7 @@
 // Kind 6, after array6.rs: four registers in three bytes, and a spare byte at the end that is zero. The bytes stay packed while they are
 // fed: each coupon reads and stores one cell. (array6.rs's get_raw and put_raw are packed::six's.)
+#![tactic(auto)]
+
 ghost use Rattle.std.specs.Prelude.{◌≡◌, length};
 ghost use Rattle.model.specs.Packed.{slot_at};
 ghost use Rattle.packed.specs.Room.{Slot6};

@@ -1,5 +1,7 @@
 // Kind 8, after array8.rs: a byte a register, in the bytes that the caller lends. Nothing here judges what it is lent: the functions ask for
 // registers that fit, and the public calls have looked.
+#![tactic(auto)]
+
 ghost use Rattle.std.specs.Prelude.{◌≡◌, [], ◌∷◌, ◌%◌, ◌<◌, length, get_or};
 ghost use Rattle.model.specs.Registers as book;
 ghost use Rattle.model.specs.Registers.{fed, poured, joined};

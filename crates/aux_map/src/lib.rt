@@ -1,4 +1,6 @@
 // The exception table of kind 4 in a lent area, after aux_map.rs: its size, the search, replacing, inserting and growing.
+#![tactic(auto)]
+
 ghost use Rattle.std.specs.Prelude.{◌≡◌, ◌/◌, ◌%◌, length, get_or, replicate};
 ghost use Rattle.model.specs.Coupon.{word};
 ghost use Rattle.model.specs.Table.{bases, base_for, size_for, table_size, Room, place, replace, grown};

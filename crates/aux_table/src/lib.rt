@@ -1,4 +1,6 @@
 // Whole exception tables: made of a list of words, made anew where cur_min rises, and checked where one is handed in.
+#![tactic(auto)]
+
 ghost use Rattle.std.specs.Prelude.{◌≡◌, length, drop};
 ghost use Rattle.model.specs.Pick.{Tells};
 ghost use Rattle.model.specs.Table.{made, laid, used, Reached};

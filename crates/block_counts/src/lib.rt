@@ -1,4 +1,6 @@
 // The sixty-four counts of a sketch's registers, whatever its kind: the floors by blocks, and then the words of the table.
+#![tactic(auto)]
+
 ghost use Rattle.std.specs.Prelude.{length};
 ghost use Rattle.model.specs.Sketch.{floors, registers, Good};
 ghost use Rattle.sums.specs.Tally.{Counted};

@@ -2,6 +2,8 @@
 // exception table as if they were coupons: whoever takes in the floors and then the words needs no search, and knows no kind.
 // Cells, floors and registers are read in blocks of neighbouring slots, as long as the buffer that is lent: sixteen of them or a multiple, since
 // sixteen cells of 4, 6 and 8 bits start and end at whole bytes. All of a sketch is a block too.
+#![tactic(auto)]
+
 ghost use Rattle.std.specs.Prelude.{◌≡◌, map, ◌+◌, ◌≤◌, length, take, drop};
 ghost use Rattle.model.specs.Registers.{fed, joined};
 ghost use Rattle.model.specs.Sketch as book;

@@ -1,4 +1,6 @@
 // What a 32-bit word says, a coupon's or an exception word's, after Coupon in hll/mod.rs: its value in the upper 6 bits, its slot in the lower 26.
+#![tactic(auto)]
+
 ghost use Rattle.std.specs.Prelude.{◌≡◌, ◌^◌, ◌≤◌, ◌<◌};
 ghost use Rattle.model.specs.Coupon as book;
 

@@ -1,4 +1,6 @@
 // What the programs read and write: thin, since no contract can say what a file holds.
+#![tactic(auto)]
+
 ghost use Rattle.std.specs.Prelude.{ℕ, ◌+◌, ◌-◌, ◌≤◌, ◌<◌, ◌≡◌, length, get_or};
 ghost use Rattle.io.specs.Counts.{IsPrefixLen};
 

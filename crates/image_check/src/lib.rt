@@ -1,5 +1,7 @@
 // Whether an image may be opened: opening's ladder of refusals behind the header's own, part by part, and the whole in document 01's order. It looks at
 // the image, its header, which was decoded before, and the lengths of what is lent. Nothing is written.
+#![tactic(auto)]
+
 ghost use Rattle.std.specs.Prelude.{◌≡◌, ◌≤◌};
 ghost use Rattle.model.specs.Answers.{number_of, said_of};
 ghost use Rattle.model.specs.Image.{aux_in, form_no, memory_no, counts_no, room_no, body_no, said_in, open_no};

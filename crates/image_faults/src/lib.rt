@@ -1,4 +1,6 @@
 // Which exception word of a kind 4 image is wrong, with no scratch: a bitmap of the slots listed, for a window of 524,288 slots at a time.
+#![tactic(auto)]
+
 ghost use Rattle.std.specs.Prelude.{◌≡◌, true, false, ◌+◌, ◌*◌, ◌^◌, ◌≤◌, ◌<◌, min, length};
 ghost use Rattle.model.specs.Pick.{pick};
 ghost use Rattle.model.specs.Packed.{slot_at, unpacked, Put};

@@ -1,5 +1,7 @@
 // The public call feed_image: the coupons of a list or a set into a sketch of any kind, from the image's own bytes. It asks for nothing: its contract is one
 // equation, which fixes the answer, the record, the count and all lent memory but scratch, for every input.
+#![tactic(auto)]
+
 ghost use Rattle.std.specs.Prelude.{◌≡◌, ◌*◌, ◌≤◌, min, length};
 ghost use Rattle.model.specs.Packed.{unpacked};
 ghost use Rattle.model.specs.Calls.{fed_out, batch_of};

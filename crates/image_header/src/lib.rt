@@ -1,4 +1,6 @@
 // The header of an image: whether there is one, and what it says, decoded once and then handed on.
+#![tactic(auto)]
+
 ghost use Rattle.std.specs.Prelude.{◌≡◌, true, ◌≤◌, length};
 ghost use Rattle.model.specs.Pick.{Tells};
 ghost use Rattle.model.specs.Answers.{number_of};

@@ -1,5 +1,7 @@
 // Coupon lists and coupon sets, the compact images of stations that have read little, after list.rs and hash_set.rs: how they are laid out, what they say,
 // and whether they may be fed to a sketch. It looks at the image alone. Nothing is written.
+#![tactic(auto)]
+
 ghost use Rattle.std.specs.Prelude.{◌≡◌, ◌*◌, ◌≤◌, eqb, length, get_or};
 ghost use Rattle.model.specs.Pick.{both, first};
 ghost use Rattle.model.specs.Answers.{said, said_of};

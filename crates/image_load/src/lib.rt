@@ -1,4 +1,6 @@
 // What an image holds into lent memory, by a header that was decoded before. It is checked first, so that a refusal has written nothing.
+#![tactic(auto)]
+
 ghost use Rattle.std.specs.Prelude.{◌≡◌, map, ◌^◌, length};
 ghost use Rattle.model.specs.Table.{base_for, made};
 ghost use Rattle.model.specs.Sketch.{area_of};

@@ -1,4 +1,6 @@
 // The public call open. It asks for nothing, and its contract is one equation for every input.
+#![tactic(auto)]
+
 ghost use Rattle.std.specs.Prelude.{◌≡◌};
 ghost use Rattle.model.specs.Calls.{made_out};
 ghost use Rattle.model.specs.Image.{open_of};

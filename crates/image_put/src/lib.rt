@@ -1,5 +1,7 @@
 // The writing side of the binary image, below the public call: `serialize` of the arrays. Whoever calls has checked the sketch, has worked
 // out its two sums, and has seen by `image_len` that the buffer has room.
+#![tactic(auto)]
+
 mod header;
 mod parts;
 mod words;

@@ -1,4 +1,6 @@
 // The exception words of a kind 4 image, cells of 32 bits behind its register bytes, as a table is built of them: the entries go to scratch's end.
+#![tactic(auto)]
+
 ghost use Rattle.std.specs.Prelude.{◌≡◌, ◌^◌, ◌≤◌};
 ghost use Rattle.model.specs.Image.{homed};
 ghost use Rattle.image_words.specs.Entries.{Collectable, Collected};

@@ -1,4 +1,6 @@
 // Writing an image: the public call over image_put. It asks for nothing, and its contract is one equation for every input.
+#![tactic(auto)]
+
 ghost use Rattle.std.specs.Prelude.{◌≡◌};
 ghost use Rattle.model.specs.Answers.{number_of};
 ghost use Rattle.model.specs.Image.{wrote, write_of};

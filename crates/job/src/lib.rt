@@ -1,4 +1,6 @@
 // The merge program's job: whether a text is one, and where it says what. It is judged whole before any file is touched.
+#![tactic(auto)]
+
 ghost use Rattle.std.specs.Prelude.{◌≡◌, ◌+◌, ◌≤◌, length, drop};
 ghost use Rattle.text.specs.Text.{stands_at};
 ghost use Rattle.job.specs.Job.{no_job, size_line, in_lines, graphic, path_in, size_in, ins_in, job_of, places_of};

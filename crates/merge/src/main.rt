@@ -1,4 +1,6 @@
 // The merge program: a job on standard input, the report on standard output.
+#![tactic(auto)]
+
 use libc::{STDIN_FILENO, STDOUT_FILENO};
 
 fn main() {

@@ -1,4 +1,6 @@
 // The merge program of document 01 as a library: one run reads a job, merges its images and writes the image of all.
+#![tactic(auto)]
+
 ghost use Rattle.std.specs.Prelude.{◌≡◌, [], length, get_or};
 ghost use Rattle.io.specs.Counts.{IsPrefixLen};
 ghost use Rattle.job.specs.Job.{job_of, places_of};

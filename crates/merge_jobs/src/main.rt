@@ -1,5 +1,7 @@
 // Plays the jobs of data/: 0.job, 1.job and so on, until one is missing. Before each report stands the job's number, and behind it what the file N.out
 // then holds, which is the job's output or what stood there before.
+#![tactic(auto)]
+
 ghost use Rattle.std.specs.Prelude.{◌≤◌, ◌<◌, length};
 ghost use Rattle.io.specs.Counts.{IsPrefixLen};
 

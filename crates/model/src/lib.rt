@@ -1,4 +1,6 @@
 // The code of the book: the record of a sketch, the answers of the table of refusals, and what calls give. All else here is specs/ and proofs/.
+#![tactic(auto)]
+
 ghost use Rattle.std.specs.Prelude.{◌≡◌};
 ghost use Rattle.model.specs.Answers.{number_of, place_of};
 ghost use Rattle.model.specs.Calls.{refused_made};

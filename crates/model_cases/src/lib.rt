@@ -1,1 +1,3 @@
 // No code: what the Rust answers to small histories and images, computed out of the book by the proof checker.
+
+#![tactic(auto)]

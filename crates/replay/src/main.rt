@@ -19,6 +19,8 @@
 //     B NO PLACE BYTE..   the same of a list or a set that is fed to the sketch, which stays as it is; 0 and 0 if it is taken
 //
 // A line that says something else than our calls counts as one difference, and so does one that can't be read.
+#![tactic(auto)]
+
 mod held;
 mod hex;
 mod same;

@@ -1,4 +1,6 @@
 // The merge program's report, as bytes at the front of a buffer.
+#![tactic(auto)]
+
 ghost use Rattle.std.specs.Prelude.{◌≡◌, ◌+◌, ◌≤◌, ◌<◌, length};
 ghost use Rattle.sums.specs.Tally.{Registers};
 ghost use Rattle.text.specs.Text.{text, decimal, line, Written, Holds};

@@ -1,4 +1,6 @@
 // Kinds and sizes: which there are, how many registers and register bytes, whether scratch is long enough, and where in an image each part begins.
+#![tactic(auto)]
+
 ghost use Rattle.std.specs.Prelude.{◌≡◌, ◌^◌, ◌≤◌};
 ghost use Rattle.model.specs.Pick.{Tells};
 ghost use Rattle.model.specs.Sketch.{is_kind, bytes_of};

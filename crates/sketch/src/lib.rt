@@ -1,5 +1,7 @@
 // The public calls over a sketch whose record goes in and comes out by value: start, view, feed, unpack, merge. No call asks for anything:
 // each contract is one equation, which fixes the answer, the record, the count and all lent memory but scratch, for every input.
+#![tactic(auto)]
+
 ghost use Rattle.std.specs.Prelude.{◌≡◌, [], true, ◌^◌, eqb, length};
 ghost use Rattle.model.specs.Answers.{number_of};
 ghost use Rattle.model.specs.Registers.{joined};

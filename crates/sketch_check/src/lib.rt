@@ -1,4 +1,6 @@
 // The first four refusals, which every call makes of a sketch handed in: KIND, LGK, SIZE, DAMAGED. start, which makes one, has the first three.
+#![tactic(auto)]
+
 ghost use Rattle.std.specs.Prelude.{◌≡◌, length};
 ghost use Rattle.model.specs.Answers.{number_of};
 ghost use Rattle.model.specs.Sketch.{Shaped};

@@ -1,4 +1,6 @@
 // Coupons into a sketch, whatever its kind: the checks that come first, and the batch behind them. feed and feed_image share it.
+#![tactic(auto)]
+
 ghost use Rattle.std.specs.Prelude.{◌≡◌, [], ◌^◌, length};
 ghost use Rattle.model.specs.Answers.{number_of};
 ghost use Rattle.model.specs.Registers.{fed};

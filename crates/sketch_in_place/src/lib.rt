@@ -1,4 +1,6 @@
 // feed over a record that is lent and changed in place. It is thin: the record is taken out, fed by value, and put back.
+#![tactic(auto)]
+
 ghost use Rattle.std.specs.Prelude.{◌≡◌};
 ghost use Rattle.model.specs.Answers.{number_of, place_of};
 ghost use Rattle.model.specs.Calls.{out, fed_out, feed_of};

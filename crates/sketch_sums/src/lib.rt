@@ -1,4 +1,6 @@
 // The public call sums: kxq0 and kxq1 of a sketch of any kind. It asks for nothing, and its contract is one equation for every input.
+#![tactic(auto)]
+
 ghost use Rattle.std.specs.Prelude.{◌≡◌};
 ghost use Rattle.model.specs.Calls.{sums_of};
 ghost use Rattle.sums.specs.Tally.{summed};

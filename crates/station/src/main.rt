@@ -1,5 +1,7 @@
 // A tour of the public calls on local memory: what they must give back is proved from their contracts, and expected again as it runs.
 // What single calls give is computed, in numbers; that two routes lead to one image is demand 3 itself (crates/station_routes).
+#![tactic(auto)]
+
 ghost use Rattle.std.specs.Prelude.{◌≡◌};
 ghost use Rattle.station.specs.Tour.{eight, four, joined, refused, totals, flat};
 

@@ -1,5 +1,7 @@
 // Two routes to one image: two batches go into sketches of kinds 4 and 6, one of which travels as bytes, and both are merged; or one sketch is fed both.
 // That the bytes are the same is not computed: it is demand 3, cited for every two batches.
+#![tactic(auto)]
+
 ghost use Rattle.std.specs.Prelude.{◌≡◌, true, List, ◌++◌, ℕ};
 ghost use Rattle.model.specs.Image.{image_in};
 ghost use Rattle.model.specs.History.{Stands};

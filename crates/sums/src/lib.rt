@@ -1,5 +1,7 @@
 // The two sums kxq0 and kxq1 as exact doubles, after `rebuild_cached_values` of array8.rs. They are worked out from sixty-four
 // counts, one for each value of a register, and not by float additions. And a double as the eight bytes that an image has.
+#![tactic(auto)]
+
 ghost use Rattle.std.specs.Prelude.{◌≡◌, not, List, [], ◌∷◌, ◌++◌, ℕ, ◌≤◌, ◌<◌, T, length, get_or};
 ghost use Rattle.std.specs.Float.{binary64};
 ghost use Rattle.std.specs.Float.Ieee.{is_nan, to_bits};

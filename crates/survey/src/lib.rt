@@ -1,5 +1,7 @@
 // What good order and opening both ask of a sketch's record and of its register bytes, in memory or in an image: the book's tests, by one survey of
 // the cells for each kind.
+#![tactic(auto)]
+
 ghost use Rattle.std.specs.Prelude.{◌≡◌, true, ◌*◌, ◌^◌, ◌≤◌, eqb, ltb, length};
 ghost use Rattle.model.specs.Pick.{pick, both};
 ghost use Rattle.model.specs.Registers.{count_of};

@@ -1,5 +1,7 @@
 // Cells of 6 bits, four in three bytes: how many are zero. Every byte is looked at by itself, with the byte after it, and never as a group:
 // what differs with the byte's place in its group stands in a table, so that the compiler takes sixteen bytes at a time.
+#![tactic(auto)]
+
 ghost use Rattle.std.specs.Prelude.{◌≡◌, ◌+◌, ◌-◌, ◌*◌, ◌/◌, ◌%◌, ◌≤◌, ◌<◌, length};
 ghost use Rattle.std.specs.Int.Bits.{bit_and};
 ghost use Rattle.model.specs.Registers.{count_of};

@@ -1,5 +1,7 @@
 // Cells of 4 and of 8 bits, a whole number of them to a byte: how many have a value, and the largest that is no token. No window, no branch on a
 // value, and counters as narrow as the cells' bytes: so the compiler takes sixteen bytes at a time. (It takes the test of the width out of the loop.)
+#![tactic(auto)]
+
 ghost use Rattle.std.specs.Prelude.{◌≡◌, ◌+◌, ◌*◌, ◌/◌, length, get_or};
 ghost use Rattle.model.specs.Registers.{count_of};
 ghost use Rattle.model.specs.Packed.{unpacked};

@@ -1,4 +1,6 @@
 // Texts as bytes: written one behind the other into a buffer, and compared.
+#![tactic(auto)]
+
 ghost use Rattle.std.specs.Prelude.{◌≡◌, ◌+◌, ◌≤◌, length, drop};
 ghost use Rattle.text.specs.Text.{decimal, stands_at, Written};
 
