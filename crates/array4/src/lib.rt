@@ -43,7 +43,7 @@ fn count_left(num: u32, raw: u8) -> u32
     if raw == 0 { num - 1 } else { num }
 }
 
-#[derive(Drop)]
+#[derive(Clone, Copy)]
 struct Updated {
     took: bool,
     sketch: Sketch,

@@ -86,7 +86,7 @@ pub fn probe(table: &[u32], slot: u32) -> usize
     found
 }
 
-#[derive(Drop)]
+#[derive(Clone, Copy)]
 pub enum FindResult {
     Found(usize),
     Empty(usize),
@@ -105,7 +105,7 @@ pub fn find(table: &[u32], slot: u32) -> FindResult
     }
 }
 
-#[derive(Drop)]
+#[derive(Clone, Copy)]
 pub enum Got {
     Value(u8),
     Missing,

@@ -5,7 +5,7 @@ ghost use Rattle.std.specs.Prelude.{ℕ, ◌+◌, ◌-◌, ◌≤◌, ◌<◌, �
 ghost use Rattle.io.specs.Counts.{IsPrefixLen};
 
 // How many bytes came, and whether a read failed.
-#[derive(Drop)]
+#[derive(Clone, Copy)]
 pub struct Got {
     pub failed: bool,
     pub n: usize,

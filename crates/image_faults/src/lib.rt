@@ -48,7 +48,7 @@ fn empty_no(compact: bool) -> u8
 }
 
 // What a word is: its number in the table of refusals, or 0; 1 for an entry; and not an entry of the window whose nibble is other than 15.
-#[derive(Drop)]
+#[derive(Clone, Copy)]
 pub struct Seen {
     pub no: u8,
     pub entry: usize,
@@ -113,7 +113,7 @@ fn and(a: bool, b: bool) -> bool
 }
 
 // The first word that is wrong and its number, or 0; the entries before it, and whether the nibbles of those are 15.
-#[derive(Drop)]
+#[derive(Clone, Copy)]
 pub struct Walk {
     pub no: u8,
     pub at: usize,
@@ -187,7 +187,7 @@ fn lesser(a: u32, b: u32) -> u32
 }
 
 // The walk over the words and the window's first slot that is unlike.
-#[derive(Drop)]
+#[derive(Clone, Copy)]
 pub struct View {
     pub walk: Walk,
     pub slot: u32,

@@ -14,7 +14,7 @@ use shape::{
 };
 
 // What the fields say, whatever they are: nothing here has been judged. A sketch's record is another thing, though the fields that both have agree.
-#[derive(Drop)]
+#[derive(Clone, Copy)]
 pub struct Header {
     pub kind: u8,
     pub lg_k: u8,

@@ -16,7 +16,7 @@ use shape::{FLAGS_BYTE, LG_K_BYTE, MAGIC_BYTE, MODE_BYTE};
 const LEAST: usize = 8;
 
 // How an image is laid out: what its first byte says, the low two bits of its mode, where its count stands and in how many bits, where its words begin.
-#[derive(Drop)]
+#[derive(Clone, Copy)]
 struct Layout {
     preamble: u8,
     mode: u8,
@@ -90,7 +90,7 @@ pub fn preamble(image: &[u8]) -> Answer
 }
 
 // Where the words begin, and how many there are said to be.
-#[derive(Drop)]
+#[derive(Clone, Copy)]
 pub struct Coupons {
     pub words: usize,
     pub count: usize,

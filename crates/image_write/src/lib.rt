@@ -8,7 +8,7 @@ ghost use Rattle.model.specs.Image.{wrote, write_of};
 use model::{Answer, Sketch};
 
 // The length is 0 where the answer refuses.
-#[derive(Drop)]
+#[derive(Clone, Copy)]
 pub struct Written {
     pub answer: Answer,
     pub len: usize,

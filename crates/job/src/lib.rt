@@ -7,7 +7,7 @@ ghost use Rattle.job.specs.Job.{no_job, size_line, in_lines, graphic, path_in, s
 ghost use Rattle.job.specs.Job.{span as Job·span};
 
 // The lg_k asked for, how many images are listed, and where the first `in=` line and the `out=` line start. All zero for a text that is no job.
-#[derive(Drop)]
+#[derive(Clone, Copy)]
 pub struct Places {
     pub lg_k: u8,
     pub files: usize,
@@ -89,7 +89,7 @@ fn size_in(job: &[u8]) -> u8
 }
 
 // How many `in=` lines stand from a place on, at most 64, and where they end.
-#[derive(Drop)]
+#[derive(Clone, Copy)]
 pub struct Listed {
     pub files: usize,
     pub end: usize,

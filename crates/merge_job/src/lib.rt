@@ -13,7 +13,7 @@ use job::Places;
 use model::Sketch;
 
 // A refusal's number and place, or 0, and the target's record.
-#[derive(Drop)]
+#[derive(Clone, Copy)]
 pub struct Taken {
     pub no: u8,
     pub place: u32,
@@ -146,7 +146,7 @@ fn take_file(
 }
 
 // A refusal's number and place and the position of its file from 1, or 0 and the number of files; and the target's record.
-#[derive(Drop)]
+#[derive(Clone, Copy)]
 pub struct Ran {
     pub no: u8,
     pub place: u32,

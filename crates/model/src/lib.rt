@@ -6,7 +6,7 @@ ghost use Rattle.model.specs.Answers.{number_of, place_of};
 ghost use Rattle.model.specs.Calls.{refused_made};
 
 // Any values may stand here: a call refuses what is not in good order.
-#[derive(Drop)]
+#[derive(Clone, Copy)]
 pub struct Sketch {
     pub kind: u8,
     pub lg_k: u8,
@@ -16,7 +16,7 @@ pub struct Sketch {
 }
 
 // A case with a place carries it: a word's position, or a slot.
-#[derive(Drop)]
+#[derive(Clone, Copy)]
 pub enum Answer {
     Ok,
     Kind,
@@ -44,14 +44,14 @@ pub enum Answer {
 }
 
 // What a call gives that makes a sketch or changes one by value.
-#[derive(Drop)]
+#[derive(Clone, Copy)]
 pub struct Made {
     pub answer: Answer,
     pub sketch: Sketch,
 }
 
 // The same of a batch, with how many coupons were taken.
-#[derive(Drop)]
+#[derive(Clone, Copy)]
 pub struct Fed {
     pub answer: Answer,
     pub sketch: Sketch,

@@ -38,7 +38,7 @@ fn pair(high: u8, low: u8) -> u16 {
 }
 
 // Whether a line could be read, and how many bytes it says.
-#[derive(Drop)]
+#[derive(Clone, Copy)]
 pub struct Said {
     pub read: bool,
     pub n: usize,

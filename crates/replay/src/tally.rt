@@ -1,5 +1,5 @@
 // What was compared, and how much of it differed. A line that differs counts as that alone.
-#[derive(Drop)]
+#[derive(Clone, Copy)]
 pub struct Tally {
     pub lines: u64,
     pub histories: u64,

@@ -7,7 +7,7 @@ ghost use Rattle.model.specs.Calls.{out, fed_out, feed_of};
 
 use model::{Answer, Fed, Sketch};
 
-#[derive(Drop)]
+#[derive(Clone, Copy)]
 pub struct FedInPlace {
     pub answer: Answer,
     pub taken: usize,

@@ -12,7 +12,7 @@ const THREE_AT_FIVE: u32 = (5 << 26) + 3;
 
 const ZERO_AT_FIFTEEN: u32 = 15 << 26;
 
-#[derive(Drop)]
+#[derive(Clone, Copy)]
 pub struct Eight {
     pub started: u8,
     pub fed: u8,
@@ -21,7 +21,7 @@ pub struct Eight {
     pub regs: [u8; 16],
 }
 
-#[derive(Drop)]
+#[derive(Clone, Copy)]
 pub struct Four {
     pub started: u8,
     pub fed: u8,
@@ -31,28 +31,28 @@ pub struct Four {
     pub aux: [u32; 8],
 }
 
-#[derive(Drop)]
+#[derive(Clone, Copy)]
 pub struct Joined {
     pub merged: u8,
     pub sketch: Sketch,
     pub regs: [u8; 16],
 }
 
-#[derive(Drop)]
+#[derive(Clone, Copy)]
 pub struct Totals {
     pub answer: u8,
     pub low: u64,
     pub high: u64,
 }
 
-#[derive(Drop)]
+#[derive(Clone, Copy)]
 pub struct Flat {
     pub answer: u8,
     pub len: usize,
     pub bytes: [u8; 52],
 }
 
-#[derive(Drop)]
+#[derive(Clone, Copy)]
 pub struct Refused {
     pub answer: u8,
     pub taken: usize,

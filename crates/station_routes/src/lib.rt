@@ -10,21 +10,21 @@ ghost use Rattle.station_routes.specs.Routes.{Roomy, InFour, InSix, InEight, Rea
 use model::Sketch;
 
 // A sketch and the memory that it is kept in: 32 registers of kinds 4 and 6, 16 of kind 8. Only kind 4 uses its area.
-#[derive(Drop)]
+#[derive(Clone, Copy)]
 pub struct Four {
     pub sketch: Sketch,
     pub regs: [u8; 16],
     pub aux: [u32; 64],
 }
 
-#[derive(Drop)]
+#[derive(Clone, Copy)]
 pub struct Six {
     pub sketch: Sketch,
     pub regs: [u8; 25],
     pub aux: [u32; 1],
 }
 
-#[derive(Drop)]
+#[derive(Clone, Copy)]
 pub struct Eight {
     pub sketch: Sketch,
     pub regs: [u8; 16],

@@ -9,7 +9,7 @@ ghost use Rattle.model.specs.Packed.{digits};
 ghost use Rattle.model.specs.Sums.{scaled};
 ghost use Rattle.sums.specs.Tally.{Counted, FewCounted, Registers, Room, Countable, said, CountedWords, Less, summed, sums_for};
 
-#[derive(Drop)]
+#[derive(Clone, Copy)]
 pub struct Sums {
     pub answer: u8,
     pub kxq0: f64,

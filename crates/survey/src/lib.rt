@@ -11,7 +11,7 @@ ghost use Rattle.survey.specs.Survey.{Surveyable, Surveyed};
 
 use model::Sketch;
 
-#[derive(Drop)]
+#[derive(Clone, Copy)]
 pub struct Seen {
     pub values: bool,
     pub spare: bool,
