@@ -1,0 +1,8 @@
+-- `c_api::calls::lp_start` meets its contract: the call's own promise, with the record read out of the words. Assumes nothing.
+use Rattle.model.proofs.calls.Places.{start_place}
+use Rattle.c_api.proofs.Handing.{handing_none}
+use Rattle.c_api.proofs.calls.lp_start.Goals as goal
+
+pub returns : goal.returns
+returns c =
+    handing_none _ (rw (c.narrow.ensures, c.narrow-2.ensures) at c.start-made.ensures) c.put.ensures c.number.ensures (start_place _ _ _ _)

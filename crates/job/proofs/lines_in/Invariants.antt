@@ -1,0 +1,11 @@
+use mathlib.Core.Path.{◌≡◌}
+use Prim.Native.Nat.{◌+◌, ◌-◌, ◌≤◌}
+use lib.ListN.{length}
+use Rattle.job.proofs.Walk.{left, bytes_left}
+use Rattle.job.proofs.lines_in.Given as goal
+
+abbrev pub invariant-loop-files : goal.invariant-loop-files
+invariant-loop-files l = (l.end ≤ 64) × (end ≤ length l.job) × (l.end + left l.job (64 - l.end) end ≡ left l.job 64 l.at) × (end + bytes_left l.job (64 - l.end) end ≡ l.at + bytes_left l.job 64 l.at)
+
+abbrev pub decreases-loop-files : goal.decreases-loop-files
+decreases-loop-files l = 64 - l.end

@@ -1,0 +1,17 @@
+-- `text::put_decimal` meets its contract: what io spells is the number's text. Assumes nothing.
+use mathlib.Core.Path.{◌∙◌}
+use borrow.Author.Rules.{rules}
+use Rattle.text.proofs.Decimal.{digits_decimal}
+use Rattle.text.proofs.put_decimal.Goals as goal
+
+pub put-requires : goal.put-requires
+put-requires c =
+    let d = c.decimal-k in
+    let e = d.ensures.1.1 ∙ digits_decimal _ _ d.ensures.1.0 in
+    rw e (search rules)
+
+pub returns : goal.returns
+returns c =
+    let d = c.decimal-k in
+    let e = d.ensures.1.1 ∙ digits_decimal _ _ d.ensures.1.0 in
+    rw e at c.put.ensures
