@@ -6,14 +6,14 @@ use crate::{hex, same};
 use model::Sketch;
 
 // Registers for lg_k up to 10, and a table for as many exceptions as there can be.
-#[derive(Drop)]
+#[derive(Clone, Copy)]
 pub struct Held {
     pub sketch: Sketch,
     pub regs: [u8; 1024],
     pub aux: [u32; 2048],
 }
 
-#[derive(Drop)]
+#[derive(Clone, Copy)]
 pub struct Done {
     pub right: bool,
     pub held: Held,
@@ -133,7 +133,7 @@ fn size_in(image: &[u8]) -> usize {
 }
 
 // What a call answered to an image, and the sketch after it.
-#[derive(Drop)]
+#[derive(Clone, Copy)]
 struct Answered {
     no: u8,
     place: u32,

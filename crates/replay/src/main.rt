@@ -32,7 +32,7 @@ ghost use Rattle.std.specs.Prelude.{◌≡◌, length};
 use held::Held;
 use tally::Tally;
 
-#[derive(Drop)]
+#[derive(Clone, Copy)]
 struct State {
     tally: Tally,
     held: Held,
@@ -40,7 +40,7 @@ struct State {
 }
 
 // What a line came to.
-#[derive(Drop)]
+#[derive(Clone, Copy)]
 struct Turn {
     right: bool,
     held: Held,
