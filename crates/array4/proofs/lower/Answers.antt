@@ -16,7 +16,7 @@ loop-at-preserved c =
     lowering.lowering_more (λ i. (c.type_inv.regs i).fits) c.loop-at.invariant (omega (arith, c.loop-at.invariant.long)) _ _ _ c.lower_byte-byte.ensures c.one_if.ensures.0 c.one_if-in-loop-at.ensures.0
 
 pub overflow_add-n-in-loop-at : goal.overflow_add-n-in-loop-at
-overflow_add-n-in-loop-at c = let t = loop-again (goal.at.overflow_add-n-in-loop-at c).After-one_if-in-loop-at in omega (arith, lowering.lowering_few (λ i. (c.type_inv.regs i).fits) t, t.upto, c.requires.few)
+overflow_add-n-in-loop-at c = let t = loop-again c in omega (arith, lowering.lowering_few (λ i. (c.type_inv.regs i).fits) t, t.upto, c.requires.few)
 
 pub returns : goal.returns
 returns c =

@@ -8,10 +8,6 @@ use Rattle.aux_map.specs.declared.Got.TheVariants.{Value}
 use Rattle.array4_read.proofs.Held as held
 use Rattle.array4_read.proofs.get.Goals as goal
 
-yields : (c : goal.After-get) → c.get.result ≡ Value (get_or (registers c.args.s c.args.regs.now c.args.aux.now) c.args.slot 0)
-yields c =
-    c.get.ensures ∙ held.high_get _ _ _ c.requires.four c.requires.good _ _ c.requires.inside c.get_raw-raw.ensures c.if-raw-lt15.false _ c.table_len-size.ensures
-
 pub get_raw-raw-requires : goal.get_raw-raw-requires
 get_raw-raw-requires c =
     omega (arith, held.bytes_long _ _ _ c.requires.four c.requires.good, c.requires.inside)
@@ -37,12 +33,16 @@ get-requires c =
     held.room _ _ _ c.requires.four c.requires.good _ _ c.requires.inside c.get_raw-raw.ensures c.if-raw-lt15.false _ c.table_len-size.ensures
 
 -- what the search yields, in either arm
-
 pub returns-in-Value : goal.returns-in-Value
-returns-in-Value c = let told = sym c.in-Value.is ∙ yields (goal.at.returns-in-Value c).After-get in cc
+returns-in-Value c =
+    let yields : c.get.result ≡ Value (get_or (registers c.args.s c.args.regs.now c.args.aux.now) c.args.slot 0) =
+        c.get.ensures ∙ held.high_get _ _ _ c.requires.four c.requires.good _ _ c.requires.inside c.get_raw-raw.ensures c.if-raw-lt15.false _ c.table_len-size.ensures in
+    let told = sym c.in-Value.is ∙ yields in cc
 
 pub returns-in-Missing : goal.returns-in-Missing
 returns-in-Missing c =
-    let told = sym c.in-Missing.is ∙ yields (goal.at.returns-in-Missing c).After-get in
+    let yields : c.get.result ≡ Value (get_or (registers c.args.s c.args.regs.now c.args.aux.now) c.args.slot 0) =
+        c.get.ensures ∙ held.high_get _ _ _ c.requires.four c.requires.good _ _ c.requires.inside c.get_raw-raw.ensures c.if-raw-lt15.false _ c.table_len-size.ensures in
+    let told = sym c.in-Missing.is ∙ yields in
     let z : ◌≡◌ {A = ℕ} 0 1 = cc in
     absurd (omega arith)

@@ -5,9 +5,6 @@ use Rattle.aux_table.specs.Check.{Ordered}
 use Rattle.array4_read.proofs.Passing as passing
 use Rattle.array4_read.proofs.table_fits.Goals as goal
 
-ordered : (c : goal.Else-not-check) → Ordered (base_for c.args.s.lg_k) c.args.s.aux_count c.args.aux.now
-ordered c = rw (← c.base_for-base.ensures) (c.check.ensures.0 (not-false _ c.if-not-check.false))
-
 pub returns-then-tokens-s : goal.returns-then-tokens-s
 returns-then-tokens-s c =
     passing.refused _ _ c.requires _ (λ t. c.if-tokens-s.true (passing.asks_tokens _ _ c.requires _ t))
@@ -20,14 +17,17 @@ returns-then-not-check c =
     passing.refused _ _ c.requires _ (λ t. c.check.ensures.1 (not-true _ c.if-not-check.true) (rw c.base_for-base.ensures (passing.asks_ordered _ _ c.requires _ t)))
 
 -- what the check of the table's order showed
-
 pub slice_bounds-words_fit-end : goal.slice_bounds-words_fit-end
 slice_bounds-words_fit-end c =
-    passing.part _ _ c.requires _ (ordered (goal.at.slice_bounds-words_fit-end c).Else-not-check) _ c.table_len-size.ensures
+    let ordered : Ordered (base_for c.args.s.lg_k) c.args.s.aux_count c.args.aux.now =
+        rw (← c.base_for-base.ensures) (c.check.ensures.0 (not-false _ c.if-not-check.false)) in
+    passing.part _ _ c.requires _ (ordered) _ c.table_len-size.ensures
 
 pub words_fit-requires : goal.words_fit-requires
 words_fit-requires c = passing.few _ _ c.requires
 
 pub returns : goal.returns
 returns c =
-    passing.answered _ _ c.requires _ c.if-tokens-s.false (ordered (goal.at.returns c).Else-not-check) _ c.table_len-size.ensures _ c.words_fit.ensures
+    let ordered : Ordered (base_for c.args.s.lg_k) c.args.s.aux_count c.args.aux.now =
+        rw (← c.base_for-base.ensures) (c.check.ensures.0 (not-false _ c.if-not-check.false)) in
+    passing.answered _ _ c.requires _ c.if-tokens-s.false (ordered) _ c.table_len-size.ensures _ c.words_fit.ensures

@@ -42,18 +42,20 @@ module _ (t : List ℕ) (s : ℕ) (room : Room t) where
       )
 
 -- the quotient is no larger than the slot
-
-below : (c : goal.After-quotient) → c.quotient.result < 2 ^ 32
-below c = omega (arith, c.quotient.ensures, div-le_self c.args.slot (length c.args.table.now))
-
 pub quotient-requires : goal.quotient-requires
 quotient-requires c = power _ c.args.slot c.requires
 
 pub overflow_mul-step : goal.overflow_mul-step
-overflow_mul-step c = omega (arith, below (goal.at.overflow_mul-step c).After-quotient)
+overflow_mul-step c =
+    let below : c.quotient.result < 2 ^ 32 =
+        omega (arith, c.quotient.ensures, div-le_self c.args.slot (length c.args.table.now)) in
+    omega (arith, below)
 
 pub overflow_add-step : goal.overflow_add-step
-overflow_add-step c = omega (arith, below (goal.at.overflow_add-step c).After-quotient)
+overflow_add-step c =
+    let below : c.quotient.result < 2 ^ 32 =
+        omega (arith, c.quotient.ensures, div-le_self c.args.slot (length c.args.table.now)) in
+    omega (arith, below)
 
 pub wrap-at-requires : goal.wrap-at-requires
 wrap-at-requires c = power _ c.args.slot c.requires
@@ -62,7 +64,10 @@ pub loop-w-init : goal.loop-w-init
 loop-w-init c = begins _ _ c.requires _ c.wrap-at.ensures
 
 pub overflow_add-at : goal.overflow_add-at
-overflow_add-at c = omega (arith, below (goal.at.overflow_add-at c).After-quotient, c.loop-w.invariant.0)
+overflow_add-at c =
+    let below : c.quotient.result < 2 ^ 32 =
+        omega (arith, c.quotient.ensures, div-le_self c.args.slot (length c.args.table.now)) in
+    omega (arith, below, c.loop-w.invariant.0)
 
 pub wrap-at-requires-in-loop-w : goal.wrap-at-requires-in-loop-w
 wrap-at-requires-in-loop-w c = power _ c.args.slot c.requires

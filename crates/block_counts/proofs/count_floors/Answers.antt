@@ -3,14 +3,20 @@ use Rattle.blocks.specs.Asked.{Long}
 use Rattle.blocks.proofs.Levels.{buffer_long}
 use Rattle.block_counts.proofs.count_floors.Goals as goal
 
-long : (c : goal.After-block_len-n) → Long c.args.s.lg_k c.block_len-n.result
-long c = c.block_len-n.ensures (record { lg = c.args.s.lg_k; power = c.num_registers.ensures }) c.requires.level.shaped.low
-
 pub slice_bounds-some-end : goal.slice_bounds-some-end
-slice_bounds-some-end c = (long (goal.at.slice_bounds-some-end c).After-block_len-n).small
+slice_bounds-some-end c =
+    let long : Long c.args.s.lg_k c.block_len-n.result =
+        c.block_len-n.ensures (record { lg = c.args.s.lg_k; power = c.num_registers.ensures }) c.requires.level.shaped.low in
+    (long).small
 
 pub slice_bounds-count_by-end : goal.slice_bounds-count_by-end
-slice_bounds-count_by-end c = buffer_long (long (goal.at.slice_bounds-count_by-end c).After-block_len-n)
+slice_bounds-count_by-end c =
+    let long : Long c.args.s.lg_k c.block_len-n.result =
+        c.block_len-n.ensures (record { lg = c.args.s.lg_k; power = c.num_registers.ensures }) c.requires.level.shaped.low in
+    buffer_long (long)
 
 pub count_by-requires : goal.count_by-requires
-count_by-requires c = rw (← buffer_long (long (goal.at.count_by-requires c).After-block_len-n)) (record { flat = c.requires; long = long (goal.at.count_by-requires c).After-block_len-n })
+count_by-requires c =
+    let long : Long c.args.s.lg_k c.block_len-n.result =
+        c.block_len-n.ensures (record { lg = c.args.s.lg_k; power = c.num_registers.ensures }) c.requires.level.shaped.low in
+    rw (← buffer_long (long)) (record { flat = c.requires; long = long })

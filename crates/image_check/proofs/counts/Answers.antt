@@ -13,39 +13,27 @@ use Rattle.model.proofs.packing.Lengths.{bytes_few}
 use Rattle.image_header.proofs.Headers.{lg_arr_is}
 use Rattle.image_check.proofs.Passing.{formed, is_in, end_is, words_small}
 use Rattle.image_check.proofs.counts.Goals as goal
-
-fit_is : (c : goal.After-counts_fit-fit) → c.counts_fit-fit.result ≡ counts_fit (sketch_in c.args.image.now)
-fit_is c = c.counts_fit-fit.ensures ∙ ap counts_fit (c.sketch_of.ensures ∙ is_in c.requires)
-
-form_is : (c : goal.After-lg_arr_fits-form) → c.lg_arr_fits-form.result ≡ lg_arr_fits c.args.image.now
-form_is c = c.lg_arr_fits-form.ensures ∙ lg_arr_is _ _ c.requires.headed
-
-counts : (c : goal.Else-not-fit) → counts_fit (sketch_in c.args.image.now) ≡ true
-counts c = sym (fit_is c.before) ∙ not-false _ c.if-not-fit.false
-
-form : (c : goal.Else-not-form) → lg_arr_fits c.args.image.now ≡ true
-form c = sym (form_is c.before) ∙ not-false _ c.if-not-form.false
-
-few : (c : goal.After-word_count-many) → (c.bytes_of-bytes.result ≤ 2 ^ 21) × (c.word_count-many.result < 2 ^ 32)
-few c = (
-  rw c.bytes_of-bytes.ensures (bytes_few _ _ (formed c.requires).1.1),
-  rw c.word_count-many.ensures (words_small c.requires (counts arr.before.before) (sym c.lg_arr_fits-form.ensures ∙ not-false _ c.if-not-form.false)),
 )
 
 -- where the payload ends
-
-end : (c : goal.After-word_count-many) → let l = c.args.image.now in
-    40 + c.bytes_of-bytes.result + 4 * c.word_count-many.result ≡ 40 + bytes_of (sketch_in l).kind (sketch_in l).lg_k + 4 * word_count l
-end c = ap₂ (λ (m n : ℕ). 40 + m + 4 * n) c.bytes_of-bytes.ensures c.word_count-many.ensures ∙ end_is c.requires
-
 pub counts_fit-fit-requires : goal.counts_fit-fit-requires
 counts_fit-fit-requires c = rw c.sketch_of.ensures (formed c.requires).1.1
 
 pub returns-then-not-fit : goal.returns-then-not-fit
-returns-then-not-fit c = counts_off _ (sym (fit_is (goal.at.returns-then-not-fit c).After-counts_fit-fit) ∙ not-true _ c.if-not-fit.true)
+returns-then-not-fit c =
+    let fit_is : c.counts_fit-fit.result ≡ counts_fit (sketch_in c.args.image.now) =
+        c.counts_fit-fit.ensures ∙ ap counts_fit (c.sketch_of.ensures ∙ is_in c.requires) in
+    counts_off _ (sym (fit_is) ∙ not-true _ c.if-not-fit.true)
 
 pub returns-then-not-form : goal.returns-then-not-form
-returns-then-not-form c = counts_lg_arr _ (counts (goal.at.returns-then-not-form c).Else-not-fit) (sym (form_is (goal.at.returns-then-not-form c).After-lg_arr_fits-form) ∙ not-true _ c.if-not-form.true)
+returns-then-not-form c =
+    let fit_is : c.counts_fit-fit.result ≡ counts_fit (sketch_in c.args.image.now) =
+        c.counts_fit-fit.ensures ∙ ap counts_fit (c.sketch_of.ensures ∙ is_in c.requires) in
+    let form_is : c.lg_arr_fits-form.result ≡ lg_arr_fits c.args.image.now =
+        c.lg_arr_fits-form.ensures ∙ lg_arr_is _ _ c.requires.headed in
+    let counts : counts_fit (sketch_in c.args.image.now) ≡ true =
+        sym (fit_is) ∙ not-false _ c.if-not-fit.false in
+    counts_lg_arr _ (counts) (sym (form_is) ∙ not-true _ c.if-not-form.true)
 
 pub bytes_of-bytes-requires : goal.bytes_of-bytes-requires
 bytes_of-bytes-requires c = (formed c.requires).1.1
@@ -54,18 +42,55 @@ pub word_count-many-requires : goal.word_count-many-requires
 word_count-many-requires c = sym c.lg_arr_fits-form.ensures ∙ not-false _ c.if-not-form.false
 
 pub overflow_add-bytes : goal.overflow_add-bytes
-overflow_add-bytes c = omega (arith, few (goal.at.overflow_add-bytes c).After-word_count-many)
+overflow_add-bytes c =
+    let few : (c.bytes_of-bytes.result ≤ 2 ^ 21) × (c.word_count-many.result < 2 ^ 32) =
+        (
+  rw c.bytes_of-bytes.ensures (bytes_few _ _ (formed c.requires).1.1),
+  rw c.word_count-many.ensures (words_small c.requires (counts arr.before.before) (sym c.lg_arr_fits-form.ensures ∙ not-false _ c.if-not-form.false)), in
+    omega (arith, few)
 
 pub overflow_mul-many : goal.overflow_mul-many
-overflow_mul-many c = omega (arith, few (goal.at.overflow_mul-many c).After-word_count-many)
+overflow_mul-many c =
+    let few : (c.bytes_of-bytes.result ≤ 2 ^ 21) × (c.word_count-many.result < 2 ^ 32) =
+        (
+  rw c.bytes_of-bytes.ensures (bytes_few _ _ (formed c.requires).1.1),
+  rw c.word_count-many.ensures (words_small c.requires (counts arr.before.before) (sym c.lg_arr_fits-form.ensures ∙ not-false _ c.if-not-form.false)), in
+    omega (arith, few)
 
 pub overflow_add-bytes-2 : goal.overflow_add-bytes-2
-overflow_add-bytes-2 c = omega (arith, few (goal.at.overflow_add-bytes-2 c).After-word_count-many)
+overflow_add-bytes-2 c =
+    let few : (c.bytes_of-bytes.result ≤ 2 ^ 21) × (c.word_count-many.result < 2 ^ 32) =
+        (
+  rw c.bytes_of-bytes.ensures (bytes_few _ _ (formed c.requires).1.1),
+  rw c.word_count-many.ensures (words_small c.requires (counts arr.before.before) (sym c.lg_arr_fits-form.ensures ∙ not-false _ c.if-not-form.false)), in
+    omega (arith, few)
 
 pub returns-then-image-bytes : goal.returns-then-image-bytes
 returns-then-image-bytes c =
-    counts_short _ (counts (goal.at.returns-then-image-bytes c).Else-not-fit) (form (goal.at.returns-then-image-bytes c).Else-not-form) (subst (λ (n : ℕ). length c.args.image.now < n) (end (goal.at.returns-then-image-bytes c).After-word_count-many) c.if-image-bytes.true)
+    let fit_is : c.counts_fit-fit.result ≡ counts_fit (sketch_in c.args.image.now) =
+        c.counts_fit-fit.ensures ∙ ap counts_fit (c.sketch_of.ensures ∙ is_in c.requires) in
+    let form_is : c.lg_arr_fits-form.result ≡ lg_arr_fits c.args.image.now =
+        c.lg_arr_fits-form.ensures ∙ lg_arr_is _ _ c.requires.headed in
+    let counts : counts_fit (sketch_in c.args.image.now) ≡ true =
+        sym (fit_is) ∙ not-false _ c.if-not-fit.false in
+    let form : lg_arr_fits c.args.image.now ≡ true =
+        sym (form_is) ∙ not-false _ c.if-not-form.false in
+    let end : let l = c.args.image.now in
+    40 + c.bytes_of-bytes.result + 4 * c.word_count-many.result ≡ 40 + bytes_of (sketch_in l).kind (sketch_in l).lg_k + 4 * word_count l =
+        ap₂ (λ (m n : ℕ). 40 + m + 4 * n) c.bytes_of-bytes.ensures c.word_count-many.ensures ∙ end_is c.requires in
+    counts_short _ (counts) (form) (subst (λ (n : ℕ). length c.args.image.now < n) (end) c.if-image-bytes.true)
 
 pub returns : goal.returns
 returns c =
-    counts_right _ (counts (goal.at.returns c).Else-not-fit) (form (goal.at.returns c).Else-not-form) (subst (λ (n : ℕ). n ≤ length c.args.image.now) (end (goal.at.returns c).After-word_count-many) c.if-image-bytes.false)
+    let fit_is : c.counts_fit-fit.result ≡ counts_fit (sketch_in c.args.image.now) =
+        c.counts_fit-fit.ensures ∙ ap counts_fit (c.sketch_of.ensures ∙ is_in c.requires) in
+    let form_is : c.lg_arr_fits-form.result ≡ lg_arr_fits c.args.image.now =
+        c.lg_arr_fits-form.ensures ∙ lg_arr_is _ _ c.requires.headed in
+    let counts : counts_fit (sketch_in c.args.image.now) ≡ true =
+        sym (fit_is) ∙ not-false _ c.if-not-fit.false in
+    let form : lg_arr_fits c.args.image.now ≡ true =
+        sym (form_is) ∙ not-false _ c.if-not-form.false in
+    let end : let l = c.args.image.now in
+    40 + c.bytes_of-bytes.result + 4 * c.word_count-many.result ≡ 40 + bytes_of (sketch_in l).kind (sketch_in l).lg_k + 4 * word_count l =
+        ap₂ (λ (m n : ℕ). 40 + m + 4 * n) c.bytes_of-bytes.ensures c.word_count-many.ensures ∙ end_is c.requires in
+    counts_right _ (counts) (form) (subst (λ (n : ℕ). n ≤ length c.args.image.now) (end) c.if-image-bytes.false)

@@ -4,4 +4,4 @@ use Rattle.model.proofs.packing.Lengths.{power_shl}
 use Rattle.image_faults.proofs.size_of.Goals as goal
 
 pub returns : goal.returns
-returns c = power_shl c.args.lg-k 32 (omega arith)
+returns c = power_shl c.args.lg_k 32 (omega arith)

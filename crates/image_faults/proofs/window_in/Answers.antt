@@ -7,14 +7,10 @@ use borrow.Author.Tests.{not-true}
 use Rattle.image_faults.proofs.Leasts.{view_blind, view_looks}
 use Rattle.image_faults.proofs.window_in.Goals as goal
 
-few : (c : goal.Else-not-look) → c.args.b < 16
-few c = let p = c.requires in omega (arith, p.2, pow_mono p.0.high)
-
 pub returns-then-not-look : goal.returns-then-not-look
 returns-then-not-look c = view_blind c.pass-walk.ensures (not-true _ c.if-not-look.true)
 
 -- a window's slots, and the next one's first, are far below 2 ^ 32
-
 pub returns : goal.returns
 returns c = view_looks c.pass-walk.ensures _ (c.lesser-end.ensures ∙ ap (min _) c.size_of.ensures) c.unlike-slot.ensures
 

@@ -12,9 +12,6 @@ use Rattle.image_feed.proofs.feed_block.Goals as goal
 abbrev zeros : List ℕ
 zeros = replicate 64 0
 
-fits : (c : goal.After-unpack) → c.args.n ≤ length (c.unpack.new.1.0 ++ drop c.args.n zeros)
-fits c = front_fits c.args.n c.args.words.now zeros c.unpack.new.1.0 c.requires.1 c.unpack.ensures
-
 pub slice_bounds-unpack-end : goal.slice_bounds-unpack-end
 slice_bounds-unpack-end c = let n = c.args.n in sym (length-take-le n zeros c.requires.1)
 
@@ -23,12 +20,17 @@ unpack-requires c =
     omega (arith, c.requires.2, length-take-le c.args.n zeros c.requires.1)
 
 -- its front is the words
-
 pub slice_bounds-block-end-2 : goal.slice_bounds-block-end-2
-slice_bounds-block-end-2 c = fits (goal.at.slice_bounds-block-end-2 c).After-unpack
+slice_bounds-block-end-2 c =
+    let fits : c.args.n ≤ length (c.unpack.new.1.0 ++ drop c.args.n zeros) =
+        front_fits c.args.n c.args.words.now zeros c.unpack.new.1.0 c.requires.1 c.unpack.ensures in
+    fits
 
 pub slice_bounds-feed-end : goal.slice_bounds-feed-end
-slice_bounds-feed-end c = sym (length-take-le _ _ (fits (goal.at.slice_bounds-feed-end c).After-unpack))
+slice_bounds-feed-end c =
+    let fits : c.args.n ≤ length (c.unpack.new.1.0 ++ drop c.args.n zeros) =
+        front_fits c.args.n c.args.words.now zeros c.unpack.new.1.0 c.requires.1 c.unpack.ensures in
+    sym (length-take-le _ _ (fits))
 
 pub returns : goal.returns
 returns c =

@@ -6,10 +6,6 @@ use lib.Pow.{pow_mono}
 use borrow.Author.Tests.{eq-eqb, ne_eqb, leb-true}
 use Rattle.image_header.proofs.word_count.Goals as goal
 
-most : (c : goal.Else-h-eq0) → c.args.h.lg_arr ≤ 22
-most c =
-    leb-true _ 22 (rw (c.if-h.false, ne_eqb _ 0 c.if-h-eq0.false) at c.requires)
-
 size : (n : ℕ) → n ≤ 22 → 1 * 2 ^ n % 18446744073709551616 ≡ 2 ^ n
 size n h = omega (arith, pow_mono h)
 
@@ -20,7 +16,13 @@ pub returns-then-h-eq0 : goal.returns-then-h-eq0
 returns-then-h-eq0 c = rw (c.if-h.false, eq-eqb _ 0 c.if-h-eq0.true)
 
 pub overflow_shl-result : goal.overflow_shl-result
-overflow_shl-result c = omega (arith, most (goal.at.overflow_shl-result c).Else-h-eq0)
+overflow_shl-result c =
+    let most : c.args.h.lg_arr ≤ 22 =
+        leb-true _ 22 (rw (c.if-h.false, ne_eqb _ 0 c.if-h-eq0.false) at c.requires) in
+    omega (arith, most)
 
 pub returns : goal.returns
-returns c = size _ (most (goal.at.returns c).Else-h-eq0) ∙ rw (c.if-h.false, ne_eqb _ 0 c.if-h-eq0.false)
+returns c =
+    let most : c.args.h.lg_arr ≤ 22 =
+        leb-true _ 22 (rw (c.if-h.false, ne_eqb _ 0 c.if-h-eq0.false) at c.requires) in
+    size _ (most) ∙ rw (c.if-h.false, ne_eqb _ 0 c.if-h-eq0.false)

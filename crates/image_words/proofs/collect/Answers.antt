@@ -14,12 +14,6 @@ use Rattle.model.specs.Image.{homed}
 use Rattle.image_words.proofs.Collecting.{stands_none, stands_passed, stands_taken}
 use Rattle.image_words.proofs.collect.Goals as goal
 
-some : (c : goal.Then-not-none) → is_empty c.word_at-w.result ≡ false
-some c = sym c.is_empty-none.ensures ∙ not-true _ c.if-not-none.true
-
-enough : (c : goal.At-loop-j) → length (filled (unpacked 32 c.args.many c.args.words.now)) ≤ length c.loop-j.into
-enough c = omega (arith, c.loop-j.invariant.1, c.requires.fits)
-
 pub loop-j-init : goal.loop-j-init
 loop-j-init c = (omega arith, refl, stands_none _ _ _ _)
 
@@ -27,23 +21,29 @@ pub word_at-w-requires : goal.word_at-w-requires
 word_at-w-requires c = omega (arith, c.requires.whole)
 
 pub overflow_sub-top : goal.overflow_sub-top
-overflow_sub-top c = room (goal.at.overflow_sub-top c).Then-not-none
+overflow_sub-top c = room c
 
 pub offset_bounds-into-top : goal.offset_bounds-into-top
-offset_bounds-into-top c = omega (arith, room (goal.at.offset_bounds-into-top c).Then-not-none, c.loop-j.invariant.2.within)
+offset_bounds-into-top c = omega (arith, room c.before, c.loop-j.invariant.2.within)
 
 pub bounds-into-top : goal.bounds-into-top
-bounds-into-top c = omega (arith, room (goal.at.bounds-into-top c).Then-not-none, c.loop-j.invariant.2.within)
+bounds-into-top c = omega (arith, room c.before, c.loop-j.invariant.2.within)
 
 pub loop-j-preserved-then-not-none : goal.loop-j-preserved-then-not-none
 loop-j-preserved-then-not-none c =
+    let some : is_empty c.word_at-w.result ≡ false =
+        sym c.is_empty-none.ensures ∙ not-true _ c.if-not-none.true in
+    let enough : length (filled (unpacked 32 c.args.many c.args.words.now)) ≤ length c.loop-j.into =
+        omega (arith, c.loop-j.invariant.1, c.requires.fits) in
     let l = c.loop-j in
-    (omega (arith, l.invariant.0), search rules, stands_taken _ _ _ _ _ _ c.loop-j-test.true l.invariant.0 (enough (goal.at.loop-j-preserved-then-not-none c).At-loop-j) l.invariant.2 _ c.word_at-w.ensures (some (goal.at.loop-j-preserved-then-not-none c).Then-not-none) _ c.take.ensures)
+    (omega (arith, l.invariant.0), search rules, stands_taken _ _ _ _ _ _ c.loop-j-test.true l.invariant.0 (enough) l.invariant.2 _ c.word_at-w.ensures (some) _ c.take.ensures)
 
 pub loop-j-preserved : goal.loop-j-preserved
 loop-j-preserved c =
+    let enough : length (filled (unpacked 32 c.args.many c.args.words.now)) ≤ length c.loop-j.into =
+        omega (arith, c.loop-j.invariant.1, c.requires.fits) in
     let l = c.loop-j in
-    (omega (arith, l.invariant.0), l.invariant.1, stands_passed _ _ _ _ _ _ c.loop-j-test.true l.invariant.0 (enough (goal.at.loop-j-preserved c).At-loop-j) l.invariant.2 _ c.word_at-w.ensures (sym c.is_empty-none.ensures ∙ not-false _ c.if-not-none.false))
+    (omega (arith, l.invariant.0), l.invariant.1, stands_passed _ _ _ _ _ _ c.loop-j-test.true l.invariant.0 (enough) l.invariant.2 _ c.word_at-w.ensures (sym c.is_empty-none.ensures ∙ not-false _ c.if-not-none.false))
 
 pub shape_of-into : goal.shape_of-into
 shape_of-into c = c.loop-j.invariant.1
@@ -53,7 +53,7 @@ returns c =
     let l = c.loop-j in
     let e : l.j ≡ 0 = omega (arith, c.loop-j-test.false) in
     let a = c.args in
-    record { within = l.invariant.2.within; are = l.invariant.2.are ∙ ap (λ (n : ℕ). map (homed (2 ^ a.lg-k)) (filled (drop n (unpacked 32 a.many a.words.now)))) e }
+    record { within = l.invariant.2.within; are = l.invariant.2.are ∙ ap (λ (n : ℕ). map (homed (2 ^ a.lg_k)) (filled (drop n (unpacked 32 a.many a.words.now)))) e }
 
 pub overflow_sub-j : goal.overflow_sub-j
 overflow_sub-j c = omega arith

@@ -8,7 +8,7 @@ use Rattle.image_words.proofs.take.Goals as goal
 
 pub word-requires : goal.word-requires
 word-requires c =
-    (omega (arith, c.home.ensures, mod-le (slot c.args.w) (2 ^ c.args.lg-k)), omega (arith, c.value.ensures))
+    (omega (arith, c.home.ensures, mod-le (slot c.args.w) (2 ^ c.args.lg_k)), omega (arith, c.value.ensures))
 
 pub returns : goal.returns
 returns c = c.word.ensures ∙ ap₂ word c.home.ensures c.value.ensures

@@ -11,40 +11,59 @@ use Rattle.block_counts.proofs.Turns.{good_few}
 use Rattle.image_write.proofs.Outcomes.{write_no_lem, write_out, write_ok}
 use Rattle.image_write.proofs.write.Goals as goal
 
-passed : (c : goal.Else-number-ne0) → let a = c.args in check_no true a.sketch a.regs.now a.aux.now ≡ 0
-passed c = sym c.check-answer.ensures ∙ sym c.number.ensures ∙ c.if-number-ne0.false
-
-good : (c : goal.Else-number-ne0) → let a = c.args in Good a.sketch a.regs.now a.aux.now
-good c = check_ok _ _ _ _ (λ i. (c.type_inv.regs i).fits) (passed c)
-
-summed_is : (c : goal.After-from_counts-sums) → let a = c.args in
-    summed c.from_counts-sums.result ≡ sums_for (registers a.sketch a.regs.now a.aux.now)
-summed_is c = c.from_counts-sums.ensures _ c.counts.ensures
-
 pub returns-then-number-ne0 : goal.returns-then-number-ne0
 returns-then-number-ne0 c = write_no_lem _ _ _ _ c.check-answer.ensures (λ e. c.if-number-ne0.true (c.number.ensures ∙ e))
 
 pub image_len-len-requires : goal.image_len-len-requires
-image_len-len-requires c = good (goal.at.image_len-len-requires c).Else-number-ne0
+image_len-len-requires c =
+    let passed : let a = c.args in check_no true a.sketch a.regs.now a.aux.now ≡ 0 =
+        sym c.check-answer.ensures ∙ sym c.number.ensures ∙ c.if-number-ne0.false in
+    let good : let a = c.args in Good a.sketch a.regs.now a.aux.now =
+        check_ok _ _ _ _ (λ i. (c.type_inv.regs i).fits) (passed) in
+    good
 
 pub returns-then-out-len : goal.returns-then-out-len
-returns-then-out-len c = write_out _ _ _ _ (passed (goal.at.returns-then-out-len c).Else-number-ne0) (omega (arith, c.image_len-len.ensures))
+returns-then-out-len c =
+    let passed : let a = c.args in check_no true a.sketch a.regs.now a.aux.now ≡ 0 =
+        sym c.check-answer.ensures ∙ sym c.number.ensures ∙ c.if-number-ne0.false in
+    write_out _ _ _ _ (passed) (omega (arith, c.image_len-len.ensures))
 
 pub counts-requires : goal.counts-requires
-counts-requires c = good (goal.at.counts-requires c).Else-number-ne0
+counts-requires c =
+    let passed : let a = c.args in check_no true a.sketch a.regs.now a.aux.now ≡ 0 =
+        sym c.check-answer.ensures ∙ sym c.number.ensures ∙ c.if-number-ne0.false in
+    let good : let a = c.args in Good a.sketch a.regs.now a.aux.now =
+        check_ok _ _ _ _ (λ i. (c.type_inv.regs i).fits) (passed) in
+    good
 
 pub from_counts-sums-requires : goal.from_counts-sums-requires
-from_counts-sums-requires c = good_few _ _ _ (good (goal.at.from_counts-sums-requires c).Else-number-ne0) c.counts.ensures
+from_counts-sums-requires c =
+    let passed : let a = c.args in check_no true a.sketch a.regs.now a.aux.now ≡ 0 =
+        sym c.check-answer.ensures ∙ sym c.number.ensures ∙ c.if-number-ne0.false in
+    let good : let a = c.args in Good a.sketch a.regs.now a.aux.now =
+        check_ok _ _ _ _ (λ i. (c.type_inv.regs i).fits) (passed) in
+    good_few _ _ _ (good) c.counts.ensures
 
 pub write_image-requires : goal.write_image-requires
-write_image-requires c = record {
-  good = good (goal.at.write_image-requires c).Else-number-ne0;
-  low = ap (λ (s : Summed). s.low) (summed_is (goal.at.write_image-requires c).After-from_counts-sums);
-  high = ap (λ (s : Summed). s.high) (summed_is (goal.at.write_image-requires c).After-from_counts-sums);
+write_image-requires c =
+    let passed : let a = c.args in check_no true a.sketch a.regs.now a.aux.now ≡ 0 =
+        sym c.check-answer.ensures ∙ sym c.number.ensures ∙ c.if-number-ne0.false in
+    let good : let a = c.args in Good a.sketch a.regs.now a.aux.now =
+        check_ok _ _ _ _ (λ i. (c.type_inv.regs i).fits) (passed) in
+    let summed_is : let a = c.args in
+    summed c.from_counts-sums.result ≡ sums_for (registers a.sketch a.regs.now a.aux.now) =
+        c.from_counts-sums.ensures _ c.counts.ensures in
+    record {
+  good = good;
+  low = ap (λ (s : Summed). s.low) (summed_is);
+  high = ap (λ (s : Summed). s.high) (summed_is);
   room = omega (arith, c.image_len-len.ensures);
+
 }
 
 pub returns : goal.returns
 returns c =
+    let passed : let a = c.args in check_no true a.sketch a.regs.now a.aux.now ≡ 0 =
+        sym c.check-answer.ensures ∙ sym c.number.ensures ∙ c.if-number-ne0.false in
     let long = c.image_len-len.ensures in
-    write_ok _ _ _ _ (passed (goal.at.returns c).Else-number-ne0) (omega (arith, long)) long c.write_image.ensures
+    write_ok _ _ _ _ (passed) (omega (arith, long)) long c.write_image.ensures

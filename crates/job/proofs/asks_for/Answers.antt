@@ -10,16 +10,16 @@ use Rattle.text.proofs.Writing.{written_next}
 use Rattle.job.proofs.asks_for.Goals as goal
 
 pub put_decimal-said-requires : goal.put_decimal-said-requires
-put_decimal-said-requires c = omega (arith, decimal_few c.args.lg-k 1 (omega arith))
+put_decimal-said-requires c = omega (arith, decimal_few c.args.lg_k 1 (omega arith))
 
 pub put-end-requires : goal.put-end-requires
-put-end-requires c = omega (arith, decimal_few c.args.lg-k 1 (omega arith))
+put-end-requires c = omega (arith, decimal_few c.args.lg_k 1 (omega arith))
 
 pub slice_bounds-line-end : goal.slice_bounds-line-end
-slice_bounds-line-end c = omega (arith, decimal_few c.args.lg-k 1 (omega arith))
+slice_bounds-line-end c = omega (arith, decimal_few c.args.lg_k 1 (omega arith))
 
 pub slice_bounds-stands-end : goal.slice_bounds-stands-end
-slice_bounds-stands-end c = sym (length-take-le _ _ (omega (arith, decimal_few c.args.lg-k 1 (omega arith))))
+slice_bounds-stands-end c = sym (length-take-le _ _ (omega (arith, decimal_few c.args.lg_k 1 (omega arith))))
 
 pub returns : goal.returns
 unfolding line

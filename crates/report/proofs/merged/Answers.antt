@@ -11,56 +11,101 @@ use Rattle.text.proofs.Writing.{written_next, written_holds}
 use Rattle.report.specs.Report.{most, merged_text}
 use Rattle.report.proofs.Lines.{line_ends, line_fits, answer_ends}
 use Rattle.report.proofs.merged.Goals as goal
-
-few : (c : goal.After-counts-counts) (v : ℕ) → v < 64 → get_or c.counts-counts.result v 0 < 10 ^ 20
-few c v h = omega (arith, c.counts-counts.ensures.each v h, count_le v c.args.regs.now, c.requires.few)
-
 -- where each line begins, at most
-
-second : (c : goal.After-put_answer-second) → c.put_answer-second.result ≤ 17
-second c = answer_ends _ c.put_answer-second.ensures
-
-third : (c : goal.After-put_line-third) → c.put_line-third.result ≤ 44
-third c = omega (arith, second c.before.before.before, line_ends _ _ 19 c.put_line-third.ensures (search rules))
-
-fourth : (c : goal.After-put_line-fourth) → c.put_line-fourth.result ≤ 52
-fourth c = omega (arith, third c.before.before.before, line_ends _ _ 2 c.put_line-fourth.ensures (search rules))
-
-fifth : (c : goal.After-put_line-fifth) → c.put_line-fifth.result ≤ 79
-fifth c = omega (arith, fourth c.before.before.before, line_ends _ _ 19 c.put_line-fifth.ensures (few c.before.before.before.before.before.before.before.before.before.before.before.before.before.before _ (search rules)))
-
-sixth : (c : goal.After-put_line-sixth) → c.put_line-sixth.result ≤ 87
-sixth c = omega (arith, fifth c.before.before.before, line_ends _ _ 2 c.put_line-sixth.ensures (search rules))
-
-seventh : (c : goal.After-put_line-seventh) → c.put_line-seventh.result ≤ 114
-seventh c = omega (arith, sixth c.before.before.before, line_ends _ _ 19 c.put_line-seventh.ensures (search rules))
-
-end : (c : goal.After-put_line) → c.put_line.result ≤ 141
-end c =
-    omega (arith, seventh c.before.before.before, line_ends _ _ 19 c.put_line.ensures (omega (arith, c.scaled_of-high.type-inv)))
-
 pub put_line-third-requires : goal.put_line-third-requires
-put_line-third-requires c = line_fits _ _ _ 19 (search rules) (omega (arith, second (goal.at.put_line-third-requires c).After-put_answer-second))
+put_line-third-requires c =
+    let second : c.put_answer-second.result ≤ 17 =
+        answer_ends _ c.put_answer-second.ensures in
+    line_fits _ _ _ 19 (search rules) (omega (arith, second))
 
 pub put_line-fourth-requires : goal.put_line-fourth-requires
-put_line-fourth-requires c = line_fits _ _ _ 2 (search rules) (omega (arith, third (goal.at.put_line-fourth-requires c).After-put_line-third))
+put_line-fourth-requires c =
+    let second : c.put_answer-second.result ≤ 17 =
+        answer_ends _ c.put_answer-second.ensures in
+    let third : c.put_line-third.result ≤ 44 =
+        omega (arith, second, line_ends _ _ 19 c.put_line-third.ensures (search rules)) in
+    line_fits _ _ _ 2 (search rules) (omega (arith, third))
 
 pub put_line-fifth-requires : goal.put_line-fifth-requires
-put_line-fifth-requires c = line_fits _ _ _ 19 (few (goal.at.put_line-fifth-requires c).After-counts-counts _ (search rules)) (omega (arith, fourth (goal.at.put_line-fifth-requires c).After-put_line-fourth))
+put_line-fifth-requires c =
+    let few : (v : ℕ) → v < 64 → get_or c.counts-counts.result v 0 < 10 ^ 20 =
+        λ v h. omega (arith, c.counts-counts.ensures.each v h, count_le v c.args.regs.now, c.requires.few) in
+    let second : c.put_answer-second.result ≤ 17 =
+        answer_ends _ c.put_answer-second.ensures in
+    let third : c.put_line-third.result ≤ 44 =
+        omega (arith, second, line_ends _ _ 19 c.put_line-third.ensures (search rules)) in
+    let fourth : c.put_line-fourth.result ≤ 52 =
+        omega (arith, third, line_ends _ _ 2 c.put_line-fourth.ensures (search rules)) in
+    line_fits _ _ _ 19 (few _ (search rules)) (omega (arith, fourth))
 
 pub put_line-sixth-requires : goal.put_line-sixth-requires
-put_line-sixth-requires c = line_fits _ _ _ 2 (search rules) (omega (arith, fifth (goal.at.put_line-sixth-requires c).After-put_line-fifth))
+put_line-sixth-requires c =
+    let few : (v : ℕ) → v < 64 → get_or c.counts-counts.result v 0 < 10 ^ 20 =
+        λ v h. omega (arith, c.counts-counts.ensures.each v h, count_le v c.args.regs.now, c.requires.few) in
+    let second : c.put_answer-second.result ≤ 17 =
+        answer_ends _ c.put_answer-second.ensures in
+    let third : c.put_line-third.result ≤ 44 =
+        omega (arith, second, line_ends _ _ 19 c.put_line-third.ensures (search rules)) in
+    let fourth : c.put_line-fourth.result ≤ 52 =
+        omega (arith, third, line_ends _ _ 2 c.put_line-fourth.ensures (search rules)) in
+    let fifth : c.put_line-fifth.result ≤ 79 =
+        omega (arith, fourth, line_ends _ _ 19 c.put_line-fifth.ensures (few _ (search rules))) in
+    line_fits _ _ _ 2 (search rules) (omega (arith, fifth))
 
 pub put_line-seventh-requires : goal.put_line-seventh-requires
-put_line-seventh-requires c = line_fits _ _ _ 19 (search rules) (omega (arith, sixth (goal.at.put_line-seventh-requires c).After-put_line-sixth))
+put_line-seventh-requires c =
+    let few : (v : ℕ) → v < 64 → get_or c.counts-counts.result v 0 < 10 ^ 20 =
+        λ v h. omega (arith, c.counts-counts.ensures.each v h, count_le v c.args.regs.now, c.requires.few) in
+    let second : c.put_answer-second.result ≤ 17 =
+        answer_ends _ c.put_answer-second.ensures in
+    let third : c.put_line-third.result ≤ 44 =
+        omega (arith, second, line_ends _ _ 19 c.put_line-third.ensures (search rules)) in
+    let fourth : c.put_line-fourth.result ≤ 52 =
+        omega (arith, third, line_ends _ _ 2 c.put_line-fourth.ensures (search rules)) in
+    let fifth : c.put_line-fifth.result ≤ 79 =
+        omega (arith, fourth, line_ends _ _ 19 c.put_line-fifth.ensures (few _ (search rules))) in
+    let sixth : c.put_line-sixth.result ≤ 87 =
+        omega (arith, fifth, line_ends _ _ 2 c.put_line-sixth.ensures (search rules)) in
+    line_fits _ _ _ 19 (search rules) (omega (arith, sixth))
 
 pub put_line-requires : goal.put_line-requires
-put_line-requires c = line_fits _ _ _ 19 (omega (arith, c.scaled_of-high.type-inv)) (omega (arith, seventh (goal.at.put_line-requires c).After-put_line-seventh))
+put_line-requires c =
+    let few : (v : ℕ) → v < 64 → get_or c.counts-counts.result v 0 < 10 ^ 20 =
+        λ v h. omega (arith, c.counts-counts.ensures.each v h, count_le v c.args.regs.now, c.requires.few) in
+    let second : c.put_answer-second.result ≤ 17 =
+        answer_ends _ c.put_answer-second.ensures in
+    let third : c.put_line-third.result ≤ 44 =
+        omega (arith, second, line_ends _ _ 19 c.put_line-third.ensures (search rules)) in
+    let fourth : c.put_line-fourth.result ≤ 52 =
+        omega (arith, third, line_ends _ _ 2 c.put_line-fourth.ensures (search rules)) in
+    let fifth : c.put_line-fifth.result ≤ 79 =
+        omega (arith, fourth, line_ends _ _ 19 c.put_line-fifth.ensures (few _ (search rules))) in
+    let sixth : c.put_line-sixth.result ≤ 87 =
+        omega (arith, fifth, line_ends _ _ 2 c.put_line-sixth.ensures (search rules)) in
+    let seventh : c.put_line-seventh.result ≤ 114 =
+        omega (arith, sixth, line_ends _ _ 19 c.put_line-seventh.ensures (search rules)) in
+    line_fits _ _ _ 19 (omega (arith, c.scaled_of-high.type-inv)) (omega (arith, seventh))
 
 pub returns : goal.returns
 unfolding merged_text
 returns c =
-    let room : c.put_line.result ≤ length c.put_line.new.0 = omega (arith, end (goal.at.returns c).After-put_line) in
+    let few : (v : ℕ) → v < 64 → get_or c.counts-counts.result v 0 < 10 ^ 20 =
+        λ v h. omega (arith, c.counts-counts.ensures.each v h, count_le v c.args.regs.now, c.requires.few) in
+    let second : c.put_answer-second.result ≤ 17 =
+        answer_ends _ c.put_answer-second.ensures in
+    let third : c.put_line-third.result ≤ 44 =
+        omega (arith, second, line_ends _ _ 19 c.put_line-third.ensures (search rules)) in
+    let fourth : c.put_line-fourth.result ≤ 52 =
+        omega (arith, third, line_ends _ _ 2 c.put_line-fourth.ensures (search rules)) in
+    let fifth : c.put_line-fifth.result ≤ 79 =
+        omega (arith, fourth, line_ends _ _ 19 c.put_line-fifth.ensures (few _ (search rules))) in
+    let sixth : c.put_line-sixth.result ≤ 87 =
+        omega (arith, fifth, line_ends _ _ 2 c.put_line-sixth.ensures (search rules)) in
+    let seventh : c.put_line-seventh.result ≤ 114 =
+        omega (arith, sixth, line_ends _ _ 19 c.put_line-seventh.ensures (search rules)) in
+    let end : c.put_line.result ≤ 141 =
+        omega (arith, seventh, line_ends _ _ 19 c.put_line.ensures (omega (arith, c.scaled_of-high.type-inv))) in
+    let room : c.put_line.result ≤ length c.put_line.new.0 = omega (arith, end) in
     let counted = c.counts-counts.ensures in
     let R = c.args.regs.now in
     let zeros-is : _ ≡ count_of 0 R = counted.each 0 (omega arith) in

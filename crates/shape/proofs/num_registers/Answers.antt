@@ -4,4 +4,4 @@ use Rattle.model.proofs.packing.Lengths.{power_shl}
 use Rattle.shape.proofs.num_registers.Goals as goal
 
 pub returns : goal.returns
-returns c = power_shl c.args.lg-k 64 (omega arith)
+returns c = power_shl c.args.lg_k 64 (omega arith)

@@ -10,10 +10,6 @@ use Rattle.sketch_feed.proofs.Batch.{ready}
 use Rattle.sketch.proofs.Outcomes.{feed_no}
 use Rattle.sketch.proofs.feed.Goals as goal
 
-passed : (c : goal.Else-number-ne0) → let a = c.args in
-    check_no (scratch_fits a.sketch.kind (length a.aux.now) (length a.scratch.now)) a.sketch a.regs.now a.aux.now ≡ 0
-passed c = sym c.check-answer.ensures ∙ sym c.number.ensures ∙ c.if-number-ne0.false
-
 pub returns-then-number-ne0 : goal.returns-then-number-ne0
 returns-then-number-ne0 c =
     let no = c.check-answer.ensures in
@@ -22,8 +18,15 @@ returns-then-number-ne0 c =
     ∙ feed_no _ _ _ _ _ no (check_place c.check-answer.result _ _ _ _ no) (λ e. c.if-number-ne0.true (c.number.ensures ∙ e))
 
 pub feed-requires : goal.feed-requires
-feed-requires c = ready _ _ _ _ (passed (goal.at.feed-requires c).Else-number-ne0) (λ i. (c.type_inv.regs i).fits)
+feed-requires c =
+    let passed : let a = c.args in
+    check_no (scratch_fits a.sketch.kind (length a.aux.now) (length a.scratch.now)) a.sketch a.regs.now a.aux.now ≡ 0 =
+        sym c.check-answer.ensures ∙ sym c.number.ensures ∙ c.if-number-ne0.false in
+    ready _ _ _ _ (passed) (λ i. (c.type_inv.regs i).fits)
 
 pub returns : goal.returns
 returns c =
-    c.feed.ensures ∙ sym (feed_is _ _ _ _ _ (passed (goal.at.returns c).Else-number-ne0))
+    let passed : let a = c.args in
+    check_no (scratch_fits a.sketch.kind (length a.aux.now) (length a.scratch.now)) a.sketch a.regs.now a.aux.now ≡ 0 =
+        sym c.check-answer.ensures ∙ sym c.number.ensures ∙ c.if-number-ne0.false in
+    c.feed.ensures ∙ sym (feed_is _ _ _ _ _ (passed))

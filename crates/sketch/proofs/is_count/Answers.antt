@@ -10,8 +10,8 @@ use Rattle.sketch.proofs.is_count.Goals as goal
 
 pub returns-then-lg_k-gt63 : goal.returns-then-lg_k-gt63
 returns-then-lg_k-gt63 c =
-    let past : 2 ^ 64 ≤ 2 ^ c.args.lg-k = pow_mono c.if-lg_k-gt63.true in
-    sym (ne_eqb c.args.len (2 ^ c.args.lg-k) (λ e. omega arith))
+    let past : 2 ^ 64 ≤ 2 ^ c.args.lg_k = pow_mono c.if-lg_k-gt63.true in
+    sym (ne_eqb c.args.len (2 ^ c.args.lg_k) (λ e. omega arith))
 
 pub returns : goal.returns
-returns c = ap (eqb _) (power_shl c.args.lg-k 64 (omega arith))
+returns c = ap (eqb _) (power_shl c.args.lg_k 64 (omega arith))

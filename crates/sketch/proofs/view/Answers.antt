@@ -4,12 +4,12 @@ use borrow.Author.Tests.{eq-eqb, ne_eqb}
 use Rattle.model.specs.Calls.{eight_no, view_of}
 use Rattle.sketch.proofs.view.Goals as goal
 
-refused : (c : goal.Then-number-ne0) → eight_no c.args.sketch c.args.regs.now ≡ 0 → ⊥
-refused c e = c.if-number-ne0.true (c.number.ensures ∙ c.check_eight-answer.ensures ∙ e)
-
 pub returns-then-number-ne0 : goal.returns-then-number-ne0
 unfolding view_of
-returns-then-number-ne0 c = (simp (ne_eqb _ 0 (refused (goal.at.returns-then-number-ne0 c).Then-number-ne0)), λ e. absurd (refused (goal.at.returns-then-number-ne0 c).Then-number-ne0 e))
+returns-then-number-ne0 c =
+    let refused : eight_no c.args.sketch c.args.regs.now ≡ 0 → ⊥ =
+        λ e. c.if-number-ne0.true (c.number.ensures ∙ c.check_eight-answer.ensures ∙ e) in
+    (simp (ne_eqb _ 0 (refused)), λ e. absurd (refused e))
 
 pub returns : goal.returns
 unfolding view_of

@@ -12,29 +12,32 @@ use Rattle.sums.proofs.Weights.{weighed, weighed_none, weighed_next, weighed_all
 use borrow.Author.Rules.{rules}
 use Rattle.sums.proofs.scaled_of.Goals as goal
 
-module _ (c : goal.In-loop-v) where
-  abbrev count : ℕ
-  count = get_or c.args.t1 (c.args.from + c.loop-v.v) 0
-
-  room : c.loop-v.n * 2 + count + 4294967295 ≤ 4294967295 * 2 ^ (c.loop-v.v + 1)
-  room = let small : Fits w32 count = search rules in horner_turn _ count c.loop-v.v c.loop-v.invariant.1 (omega arith)
-
 pub loop-v-init : goal.loop-v-init
 loop-v-init c = (search rules, search rules, λ R k. sym (weighed_none _ R))
 
 -- the count that a turn adds, and that the turn leaves room
-
 pub overflow_mul-n : goal.overflow_mul-n
-overflow_mul-n c = omega (arith, room (goal.at.overflow_mul-n c).In-loop-v-unread, horner_fits (c.loop-v.v + 1) (omega arith))
+overflow_mul-n c =
+    let count : ℕ = get_or c.args.counts (c.args.from + c.loop-v.v) 0 in
+    let small : Fits w32 count = search rules in
+    let room : c.loop-v.n * 2 + count + 4294967295 ≤ 4294967295 * 2 ^ (c.loop-v.v + 1) = horner_turn _ count c.loop-v.v c.loop-v.invariant.1 (omega arith) in
+    omega (arith, room, horner_fits (c.loop-v.v + 1) (omega arith))
 
 pub overflow_add-n-in-loop-v : goal.overflow_add-n-in-loop-v
-overflow_add-n-in-loop-v c = omega (arith, room (goal.at.overflow_add-n-in-loop-v c).In-loop-v, horner_fits (c.loop-v.v + 1) (omega arith))
+overflow_add-n-in-loop-v c =
+    let count : ℕ = get_or c.args.counts (c.args.from + c.loop-v.v) 0 in
+    let small : Fits w32 count = search rules in
+    let room : c.loop-v.n * 2 + count + 4294967295 ≤ 4294967295 * 2 ^ (c.loop-v.v + 1) = horner_turn _ count c.loop-v.v c.loop-v.invariant.1 (omega arith) in
+    omega (arith, room, horner_fits (c.loop-v.v + 1) (omega arith))
 
 pub loop-v-preserved : goal.loop-v-preserved
 loop-v-preserved c =
+    let count : ℕ = get_or c.args.counts (c.args.from + c.loop-v.v) 0 in
+    let small : Fits w32 count = search rules in
+    let room : c.loop-v.n * 2 + count + 4294967295 ≤ 4294967295 * 2 ^ (c.loop-v.v + 1) = horner_turn _ count c.loop-v.v c.loop-v.invariant.1 (omega arith) in
     let loop = c.loop-v in
     let from = c.args.from in
-    (omega arith, room (goal.at.loop-v-preserved c).In-loop-v, λ R k. rw (add-one loop.v) (omega (arith, weighed_next from loop.v R, loop.invariant.2 R k, k.each (from + loop.v) (omega arith))))
+    (omega arith, room, λ R k. rw (add-one loop.v) (omega (arith, weighed_next from loop.v R, loop.invariant.2 R k, k.each (from + loop.v) (omega arith))))
 
 pub returns : goal.returns
 returns c = λ R k.
