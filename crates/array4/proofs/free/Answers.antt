@@ -1,6 +1,5 @@
 -- `array4::free` meets its contract: `Freeing` says what each turn leaves. Assumes nothing.
 use mathlib.Core.Path.{sym, ◌∙◌, subst}
-use mathlib.Core.Logic.{⊎_elim}
 use mathlib.Core.List.{List}
 use Prim.Native.Nat.{ℕ, ◌+◌, ◌-◌, ◌*◌, ◌<◌}
 use native.Mathlib.Omega.{arith}
@@ -9,6 +8,7 @@ use Rattle.model.specs.Coupon.{slot}
 use Rattle.array4.specs.Rise.{Freed}
 use Rattle.array4.proofs.Freeing as freeing
 use Rattle.array4.proofs.free.Goals as goal
+use Rattle.array4.proofs.free.Goals.{then-value, else-value}
 
 pub loop-i-init : goal.loop-i-init
 loop-i-init c = (omega arith, freeing.freed_none _ _ _)
@@ -23,10 +23,10 @@ loop-i-preserved c =
     let f : List ℕ → Type 0 = Freed c.args.table.now c.args.value (c.loop-i.i + 1) c.args.regs.now in
     let v = c.value.ensures in (
       omega arith,
-      ⊎_elim
-          (λ t. subst f (sym t.6) (freeing.freed_put c.loop-i.invariant.1 _ (sym v ∙ t.0.taken) (rw t.2.ensures at t.3.ensures)))
-          (λ t. subst f (sym t.1) (freeing.freed_skip c.loop-i.invariant.1 (λ e. t.0.left (v ∙ e))))
-          c.if-value.branch,
+      elim c.if-value.branch [
+        then-value w ↦ subst f (sym w.regs-is) (freeing.freed_put c.loop-i.invariant.1 _ (sym v ∙ w.if-value.true) (rw w.slot.ensures at w.put_raw.ensures))
+      | else-value w ↦ subst f (sym w.regs-is) (freeing.freed_skip c.loop-i.invariant.1 (λ e. w.if-value.false (v ∙ e)))
+      ],
     )
 
 pub returns : goal.returns

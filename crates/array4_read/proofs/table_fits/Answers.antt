@@ -14,13 +14,13 @@ check-requires c = rw c.base_for-base.ensures (passing.is_based _ _ c.requires)
 
 pub returns-then-not-check : goal.returns-then-not-check
 returns-then-not-check c =
-    passing.refused _ _ c.requires _ (λ t. c.check.ensures.1 (not-true _ c.if-not-check.true) (rw c.base_for-base.ensures (passing.asks_ordered _ _ c.requires _ t)))
+    passing.refused _ _ c.requires _ (λ t. c.check.ensures.1 c.if-not-check.true (rw c.base_for-base.ensures (passing.asks_ordered _ _ c.requires _ t)))
 
 -- what the check of the table's order showed
 pub slice_bounds-words_fit-end : goal.slice_bounds-words_fit-end
 slice_bounds-words_fit-end c =
     let ordered : Ordered (base_for c.args.s.lg_k) c.args.s.aux_count c.args.aux.now =
-        rw (← c.base_for-base.ensures) (c.check.ensures.0 (not-false _ c.if-not-check.false)) in
+        rw (← c.base_for-base.ensures) (c.check.ensures.0 c.if-not-check.false) in
     passing.part _ _ c.requires _ (ordered) _ c.table_len-size.ensures
 
 pub words_fit-requires : goal.words_fit-requires
@@ -29,5 +29,5 @@ words_fit-requires c = passing.few _ _ c.requires
 pub returns : goal.returns
 returns c =
     let ordered : Ordered (base_for c.args.s.lg_k) c.args.s.aux_count c.args.aux.now =
-        rw (← c.base_for-base.ensures) (c.check.ensures.0 (not-false _ c.if-not-check.false)) in
+        rw (← c.base_for-base.ensures) (c.check.ensures.0 c.if-not-check.false) in
     passing.answered _ _ c.requires _ c.if-tokens-s.false (ordered) _ c.table_len-size.ensures _ c.words_fit.ensures

@@ -17,7 +17,7 @@ pub loop-turn-preserved : goal.loop-turn-preserved
 loop-turn-preserved c =
     let loop = c.loop-turn in
     let fed-one = c.update-zeros in
-    (ready_next loop.invariant.0 fed-one.ensures fed-one.auto.1.1.0, fed_turn _ loop.regs _ _ _ loop.turn (omega arith) fed-one.ensures.regs loop.invariant.1)
+    (ready_next loop.invariant.0 fed-one.ensures fed-one.auto.regs, fed_turn _ loop.regs _ _ _ loop.turn (omega arith) fed-one.ensures.regs loop.invariant.1)
 
 pub returns : goal.returns
 returns c =

@@ -1,6 +1,5 @@
 -- `aux_table::count_used` meets its contract: n counts the words passed. Assumes nothing.
 use mathlib.Core.Path.{◌≡◌, refl, sym, ◌∙◌, ap}
-use mathlib.Core.Logic.{⊎_elim}
 use Prim.Native.Nat.{ℕ, ◌+◌, ◌-◌, ◌<◌}
 use native.Mathlib.Omega.{arith}
 use lib.ListN.{length, take}
@@ -8,6 +7,7 @@ use lib.Seq.{take-length}
 use Rattle.model.specs.Table.{used}
 use Rattle.model.proofs.table.Refill.{used_skip, used_step}
 use Rattle.aux_table.proofs.count_used.Goals as goal
+use Rattle.aux_table.proofs.count_used.Goals.{then-table-i-ne0, else-table-i-ne0}
 
 pub loop-i-init : goal.loop-i-init
 unfolding used
@@ -17,10 +17,10 @@ pub loop-i-preserved : goal.loop-i-preserved
 loop-i-preserved c =
     let t = c.args.table.now in
     let h : c.loop-i.i < length t = omega arith in
-    ⊎_elim
-    (λ w. (omega arith, omega arith, w.1 ∙ ap (λ (k : ℕ). k + 1) c.loop-i.invariant.2 ∙ sym (used_step t c.loop-i.i h w.0.taken)))
-    (λ w. (omega arith, omega arith, w.1 ∙ c.loop-i.invariant.2 ∙ sym (used_skip t c.loop-i.i h w.0.left)))
-    c.if-table-i-ne0.branch
+    elim c.if-table-i-ne0.branch [
+      then-table-i-ne0 w ↦ (omega arith, omega arith, w.n-is ∙ ap (λ (k : ℕ). k + 1) c.loop-i.invariant.2 ∙ sym (used_step t c.loop-i.i h w.if-table-i-ne0.true))
+    | else-table-i-ne0 w ↦ (omega arith, omega arith, w.n-is ∙ c.loop-i.invariant.2 ∙ sym (used_skip t c.loop-i.i h w.if-table-i-ne0.false))
+    ]
 
 pub returns : goal.returns
 returns c =

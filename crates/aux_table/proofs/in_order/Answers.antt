@@ -1,6 +1,5 @@
 -- `aux_table::in_order` meets its contract: each word passed is where its search ends. Assumes nothing.
 use mathlib.Core.Path.{refl, sym, ap, ◌∙◌}
-use mathlib.Core.Logic.{⊎_elim}
 use Prim.Native.Nat.{◌-◌, ◌<◌}
 use native.Mathlib.Omega.{arith}
 use borrow.Author.Count.{below_more, below_none}
@@ -9,6 +8,7 @@ use Rattle.model.specs.Coupon.{slot}
 use Rattle.model.specs.Table.{Reached, place}
 use Rattle.model.proofs.table.FirstLaws.{true_not_false}
 use Rattle.aux_table.proofs.in_order.Goals as goal
+use Rattle.aux_table.proofs.in_order.Goals.{then-w-ne0, else-w-ne0}
 
 pub loop-i-init : goal.loop-i-init
 loop-i-init c = (omega arith, below_none _)
@@ -26,7 +26,10 @@ returns-then-at-i c =
 pub loop-i-preserved : goal.loop-i-preserved
 loop-i-preserved c =
     let t = c.args.table.now in
-    (omega arith, below_more _ c.loop-i.i c.loop-i.invariant.1 (⊎_elim (λ w n. sym (w.2.ensures ∙ ap (place t) w.1.ensures) ∙ w.3.left) (λ w n. absurd (n w.left)) c.if-w-ne0.branch))
+    (omega arith, below_more _ c.loop-i.i c.loop-i.invariant.1 (λ n. elim c.if-w-ne0.branch [
+      then-w-ne0 w ↦ sym (w.probe-at.ensures ∙ ap (place t) w.slot.ensures) ∙ w.if-at-i.false
+    | else-w-ne0 w ↦ absurd (n w.if-w-ne0.false)
+    ]))
 
 pub returns : goal.returns
 unfolding Reached

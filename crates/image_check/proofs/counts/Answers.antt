@@ -23,7 +23,7 @@ pub returns-then-not-fit : goal.returns-then-not-fit
 returns-then-not-fit c =
     let fit_is : c.counts_fit-fit.result ≡ counts_fit (sketch_in c.args.image.now) =
         c.counts_fit-fit.ensures ∙ ap counts_fit (c.sketch_of.ensures ∙ is_in c.requires) in
-    counts_off _ (sym (fit_is) ∙ not-true _ c.if-not-fit.true)
+    counts_off _ (sym (fit_is) ∙ c.if-not-fit.true)
 
 pub returns-then-not-form : goal.returns-then-not-form
 returns-then-not-form c =
@@ -32,21 +32,21 @@ returns-then-not-form c =
     let form_is : c.lg_arr_fits-form.result ≡ lg_arr_fits c.args.image.now =
         c.lg_arr_fits-form.ensures ∙ lg_arr_is _ _ c.requires.headed in
     let counts : counts_fit (sketch_in c.args.image.now) ≡ true =
-        sym (fit_is) ∙ not-false _ c.if-not-fit.false in
-    counts_lg_arr _ (counts) (sym (form_is) ∙ not-true _ c.if-not-form.true)
+        sym (fit_is) ∙ c.if-not-fit.false in
+    counts_lg_arr _ (counts) (sym (form_is) ∙ c.if-not-form.true)
 
 pub bytes_of-bytes-requires : goal.bytes_of-bytes-requires
 bytes_of-bytes-requires c = (formed c.requires).1.1
 
 pub word_count-many-requires : goal.word_count-many-requires
-word_count-many-requires c = sym c.lg_arr_fits-form.ensures ∙ not-false _ c.if-not-form.false
+word_count-many-requires c = sym c.lg_arr_fits-form.ensures ∙ c.if-not-form.false
 
 pub overflow_add-bytes : goal.overflow_add-bytes
 overflow_add-bytes c =
     let few : (c.bytes_of-bytes.result ≤ 2 ^ 21) × (c.word_count-many.result < 2 ^ 32) =
         (
   rw c.bytes_of-bytes.ensures (bytes_few _ _ (formed c.requires).1.1),
-  rw c.word_count-many.ensures (words_small c.requires (counts arr.before.before) (sym c.lg_arr_fits-form.ensures ∙ not-false _ c.if-not-form.false)), in
+  rw c.word_count-many.ensures (words_small c.requires (counts arr.before.before) (sym c.lg_arr_fits-form.ensures ∙ c.if-not-form.false)), in
     omega (arith, few)
 
 pub overflow_mul-many : goal.overflow_mul-many
@@ -54,7 +54,7 @@ overflow_mul-many c =
     let few : (c.bytes_of-bytes.result ≤ 2 ^ 21) × (c.word_count-many.result < 2 ^ 32) =
         (
   rw c.bytes_of-bytes.ensures (bytes_few _ _ (formed c.requires).1.1),
-  rw c.word_count-many.ensures (words_small c.requires (counts arr.before.before) (sym c.lg_arr_fits-form.ensures ∙ not-false _ c.if-not-form.false)), in
+  rw c.word_count-many.ensures (words_small c.requires (counts arr.before.before) (sym c.lg_arr_fits-form.ensures ∙ c.if-not-form.false)), in
     omega (arith, few)
 
 pub overflow_add-bytes-2 : goal.overflow_add-bytes-2
@@ -62,7 +62,7 @@ overflow_add-bytes-2 c =
     let few : (c.bytes_of-bytes.result ≤ 2 ^ 21) × (c.word_count-many.result < 2 ^ 32) =
         (
   rw c.bytes_of-bytes.ensures (bytes_few _ _ (formed c.requires).1.1),
-  rw c.word_count-many.ensures (words_small c.requires (counts arr.before.before) (sym c.lg_arr_fits-form.ensures ∙ not-false _ c.if-not-form.false)), in
+  rw c.word_count-many.ensures (words_small c.requires (counts arr.before.before) (sym c.lg_arr_fits-form.ensures ∙ c.if-not-form.false)), in
     omega (arith, few)
 
 pub returns-then-image-bytes : goal.returns-then-image-bytes
@@ -72,9 +72,9 @@ returns-then-image-bytes c =
     let form_is : c.lg_arr_fits-form.result ≡ lg_arr_fits c.args.image.now =
         c.lg_arr_fits-form.ensures ∙ lg_arr_is _ _ c.requires.headed in
     let counts : counts_fit (sketch_in c.args.image.now) ≡ true =
-        sym (fit_is) ∙ not-false _ c.if-not-fit.false in
+        sym (fit_is) ∙ c.if-not-fit.false in
     let form : lg_arr_fits c.args.image.now ≡ true =
-        sym (form_is) ∙ not-false _ c.if-not-form.false in
+        sym (form_is) ∙ c.if-not-form.false in
     let end : let l = c.args.image.now in
     40 + c.bytes_of-bytes.result + 4 * c.word_count-many.result ≡ 40 + bytes_of (sketch_in l).kind (sketch_in l).lg_k + 4 * word_count l =
         ap₂ (λ (m n : ℕ). 40 + m + 4 * n) c.bytes_of-bytes.ensures c.word_count-many.ensures ∙ end_is c.requires in
@@ -87,9 +87,9 @@ returns c =
     let form_is : c.lg_arr_fits-form.result ≡ lg_arr_fits c.args.image.now =
         c.lg_arr_fits-form.ensures ∙ lg_arr_is _ _ c.requires.headed in
     let counts : counts_fit (sketch_in c.args.image.now) ≡ true =
-        sym (fit_is) ∙ not-false _ c.if-not-fit.false in
+        sym (fit_is) ∙ c.if-not-fit.false in
     let form : lg_arr_fits c.args.image.now ≡ true =
-        sym (form_is) ∙ not-false _ c.if-not-form.false in
+        sym (form_is) ∙ c.if-not-form.false in
     let end : let l = c.args.image.now in
     40 + c.bytes_of-bytes.result + 4 * c.word_count-many.result ≡ 40 + bytes_of (sketch_in l).kind (sketch_in l).lg_k + 4 * word_count l =
         ap₂ (λ (m n : ℕ). 40 + m + 4 * n) c.bytes_of-bytes.ensures c.word_count-many.ensures ∙ end_is c.requires in

@@ -12,10 +12,10 @@ pub returns-then-not-spare : goal.returns-then-not-spare
 returns-then-not-spare c =
     let sized : let a = c.args in size_no a.kind a.lg_k a.regs_len ≡ 0 =
         size_right _ _ _ (c.if-regs_len-bytes_of.false ∙ c.bytes_of.ensures) in
-    memory_scratch _ _ _ _ _ (sized) (sym c.scratch_fits-spare.ensures ∙ not-true _ c.if-not-spare.true)
+    memory_scratch _ _ _ _ _ (sized) (sym c.scratch_fits-spare.ensures ∙ c.if-not-spare.true)
 
 pub returns : goal.returns
 returns c =
     let sized : let a = c.args in size_no a.kind a.lg_k a.regs_len ≡ 0 =
         size_right _ _ _ (c.if-regs_len-bytes_of.false ∙ c.bytes_of.ensures) in
-    memory_right _ _ _ _ _ (sized) (sym c.scratch_fits-spare.ensures ∙ not-false _ c.if-not-spare.false)
+    memory_right _ _ _ _ _ (sized) (sym c.scratch_fits-spare.ensures ∙ c.if-not-spare.false)

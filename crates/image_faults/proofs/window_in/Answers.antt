@@ -8,7 +8,7 @@ use Rattle.image_faults.proofs.Leasts.{view_blind, view_looks}
 use Rattle.image_faults.proofs.window_in.Goals as goal
 
 pub returns-then-not-look : goal.returns-then-not-look
-returns-then-not-look c = view_blind c.pass-walk.ensures (not-true _ c.if-not-look.true)
+returns-then-not-look c = view_blind c.pass-walk.ensures c.if-not-look.true
 
 -- a window's slots, and the next one's first, are far below 2 ^ 32
 pub returns : goal.returns

@@ -22,17 +22,17 @@ unpack-requires c =
 -- its front is the words
 pub slice_bounds-block-end-2 : goal.slice_bounds-block-end-2
 slice_bounds-block-end-2 c =
-    let fits : c.args.n ≤ length (c.unpack.new.1.0 ++ drop c.args.n zeros) =
-        front_fits c.args.n c.args.words.now zeros c.unpack.new.1.0 c.requires.1 c.unpack.ensures in
+    let fits : c.args.n ≤ length (c.unpack.new.out ++ drop c.args.n zeros) =
+        front_fits c.args.n c.args.words.now zeros c.unpack.new.out c.requires.1 c.unpack.ensures in
     fits
 
 pub slice_bounds-feed-end : goal.slice_bounds-feed-end
 slice_bounds-feed-end c =
-    let fits : c.args.n ≤ length (c.unpack.new.1.0 ++ drop c.args.n zeros) =
-        front_fits c.args.n c.args.words.now zeros c.unpack.new.1.0 c.requires.1 c.unpack.ensures in
+    let fits : c.args.n ≤ length (c.unpack.new.out ++ drop c.args.n zeros) =
+        front_fits c.args.n c.args.words.now zeros c.unpack.new.out c.requires.1 c.unpack.ensures in
     sym (length-take-le _ _ (fits))
 
 pub returns : goal.returns
 returns c =
     c.feed.ensures
-    ∙ ap (λ (l : List ℕ). batch_of c.args.s c.args.regs.now c.args.aux.now l) (front_is c.args.n c.args.words.now zeros c.unpack.new.1.0 c.requires.1 c.unpack.ensures)
+    ∙ ap (λ (l : List ℕ). batch_of c.args.s c.args.regs.now c.args.aux.now l) (front_is c.args.n c.args.words.now zeros c.unpack.new.out c.requires.1 c.unpack.ensures)

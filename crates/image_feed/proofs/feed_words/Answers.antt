@@ -73,7 +73,7 @@ overflow_add-result c =
     let w = c.requires.1 in
     (omega arith, omega arith, omega arith, omega arith) in
     let block : let l = c.loop-i in let a = c.args in
-    fed_out c.feed_block-f.result c.feed_block-f.new.1.0 c.feed_block-f.new.1.1.0
+    fed_out c.feed_block-f.result c.feed_block-f.new.regs c.feed_block-f.new.aux
     ≡ batch_of l.fed l.regs l.aux (take c.lesser-n.result (drop l.i (unpacked 32 a.many a.words.now))) =
         let words = c.args.words.now in
     c.feed_block-f.ensures
@@ -105,7 +105,7 @@ returns-then-number-ne0 c =
     let w = c.requires.1 in
     (omega arith, omega arith, omega arith, omega arith) in
     let block : let l = c.loop-i in let a = c.args in
-    fed_out c.feed_block-f.result c.feed_block-f.new.1.0 c.feed_block-f.new.1.1.0
+    fed_out c.feed_block-f.result c.feed_block-f.new.regs c.feed_block-f.new.aux
     ≡ batch_of l.fed l.regs l.aux (take c.lesser-n.result (drop l.i (unpacked 32 a.many a.words.now))) =
         let words = c.args.words.now in
     c.feed_block-f.ensures
@@ -145,7 +145,7 @@ loop-i-preserved c =
     let w = c.requires.1 in
     (omega arith, omega arith, omega arith, omega arith) in
     let block : let l = c.loop-i in let a = c.args in
-    fed_out c.feed_block-f.result c.feed_block-f.new.1.0 c.feed_block-f.new.1.1.0
+    fed_out c.feed_block-f.result c.feed_block-f.new.regs c.feed_block-f.new.aux
     ≡ batch_of l.fed l.regs l.aux (take c.lesser-n.result (drop l.i (unpacked 32 a.many a.words.now))) =
         let words = c.args.words.now in
     c.feed_block-f.ensures

@@ -10,9 +10,9 @@ returns-then-image-lt-REGISTERS_BYTE c = header_short _ c.if-image-lt-REGISTERS_
 pub returns-then-not-begun : goal.returns-then-not-begun
 returns-then-not-begun c =
     let l = c.args.image.now in
-    header_off l c.if-image-lt-REGISTERS_BYTE.false _ (begins_tells l _ c.starts-begun.ensures) (not-true _ c.if-not-begun.true)
+    header_off l c.if-image-lt-REGISTERS_BYTE.false _ (begins_tells l _ c.starts-begun.ensures) c.if-not-begun.true
 
 pub returns : goal.returns
 returns c =
     let l = c.args.image.now in
-    header_right l c.if-image-lt-REGISTERS_BYTE.false _ (begins_tells l _ c.starts-begun.ensures) (not-false _ c.if-not-begun.false)
+    header_right l c.if-image-lt-REGISTERS_BYTE.false _ (begins_tells l _ c.starts-begun.ensures) c.if-not-begun.false

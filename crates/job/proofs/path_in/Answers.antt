@@ -12,12 +12,12 @@ use Rattle.job.proofs.path_in.Goals as goal
 pub returns-then-not-found : goal.returns-then-not-found
 returns-then-not-found c =
     let a = c.args in
-    path_unkeyed _ a.job.now a.at (sym c.stands-found.ensures ∙ not-true _ c.if-not-found.true)
+    path_unkeyed _ a.job.now a.at (sym c.stands-found.ensures ∙ c.if-not-found.true)
 
 pub overflow_add-from : goal.overflow_add-from
 overflow_add-from c =
     let keyed : let a = c.args in stands_at a.key.now (drop a.at a.job.now) ≡ true =
-        sym c.stands-found.ensures ∙ not-false _ c.if-not-found.false in
+        sym c.stands-found.ensures ∙ c.if-not-found.false in
     let room : let a = c.args in length a.key.now ≤ length a.job.now - a.at =
         let a = c.args in key_room _ a.job.now a.at (keyed) in
     omega (arith, room)
@@ -28,7 +28,7 @@ returns-then-n-gt200 c = path_long _ _ _ _ c.span-n.ensures c.if-n-gt200.true
 pub overflow_add-end : goal.overflow_add-end
 overflow_add-end c =
     let keyed : let a = c.args in stands_at a.key.now (drop a.at a.job.now) ≡ true =
-        sym c.stands-found.ensures ∙ not-false _ c.if-not-found.false in
+        sym c.stands-found.ensures ∙ c.if-not-found.false in
     let room : let a = c.args in length a.key.now ≤ length a.job.now - a.at =
         let a = c.args in key_room _ a.job.now a.at (keyed) in
     let a = c.args in
@@ -43,5 +43,5 @@ returns-then-job-end-ne10 c = path_unended _ _ _ _ c.span-n.ensures c.if-job-end
 pub returns : goal.returns
 returns c =
     let keyed : let a = c.args in stands_at a.key.now (drop a.at a.job.now) ≡ true =
-        sym c.stands-found.ensures ∙ not-false _ c.if-not-found.false in
+        sym c.stands-found.ensures ∙ c.if-not-found.false in
     path_found _ _ _ _ c.span-n.ensures (keyed) c.if-n-gt200.false c.if-job-end-ne10.false

@@ -9,12 +9,12 @@ use Rattle.job.proofs.span.Goals as goal
 
 pub returns-then-not-fits : goal.returns-then-not-fits
 returns-then-not-fits c =
-    let h = span_off c.args.job.now c.loop-i.i c.loop-i-test.true (sym c.is_graphic-fits.ensures ∙ not-true _ c.if-not-fits.true) in
+    let h = span_off c.args.job.now c.loop-i.i c.loop-i-test.true (sym c.is_graphic-fits.ensures ∙ c.if-not-fits.true) in
     omega arith
 
 pub loop-i-preserved : goal.loop-i-preserved
 loop-i-preserved c =
-    let h = span_on c.args.job.now c.loop-i.i c.loop-i-test.true (sym c.is_graphic-fits.ensures ∙ not-false _ c.if-not-fits.false) in
+    let h = span_on c.args.job.now c.loop-i.i c.loop-i-test.true (sym c.is_graphic-fits.ensures ∙ c.if-not-fits.false) in
     (search rules, omega arith)
 
 pub returns : goal.returns

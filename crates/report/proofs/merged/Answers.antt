@@ -105,7 +105,7 @@ returns c =
         omega (arith, sixth, line_ends _ _ 19 c.put_line-seventh.ensures (search rules)) in
     let end : c.put_line.result ≤ 141 =
         omega (arith, seventh, line_ends _ _ 19 c.put_line.ensures (omega (arith, c.scaled_of-high.type-inv))) in
-    let room : c.put_line.result ≤ length c.put_line.new.0 = omega (arith, end) in
+    let room : c.put_line.result ≤ length c.put_line.new.out = omega (arith, end) in
     let counted = c.counts-counts.ensures in
     let R = c.args.regs.now in
     let zeros-is : _ ≡ count_of 0 R = counted.each 0 (omega arith) in

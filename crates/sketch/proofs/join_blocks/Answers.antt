@@ -11,4 +11,4 @@ raise_exceptions-requires c = joins_words _ _ _ _ c.requires c.pour.auto.target
 pub returns : goal.returns
 returns c =
     let poured = c.pour in
-    joins_all _ _ _ _ c.requires _ poured.ensures poured.auto.1.1.0 c.raise_exceptions.ensures
+    joins_all _ _ _ _ c.requires _ poured.ensures poured.auto.target c.raise_exceptions.ensures

@@ -11,4 +11,4 @@ raise_exceptions-requires c = whole_words _ _ _ c.requires c.floors.auto.out
 pub returns : goal.returns
 returns c =
     let floored = c.floors in
-    whole_all _ _ _ c.requires floored.ensures floored.auto.1.1.1.0 c.raise_exceptions.ensures
+    whole_all _ _ _ c.requires floored.ensures floored.auto.out c.raise_exceptions.ensures

@@ -7,11 +7,11 @@ use Rattle.text.proofs.put_decimal.Goals as goal
 pub put-requires : goal.put-requires
 put-requires c =
     let d = c.decimal-k in
-    let e = d.ensures.1.1 ∙ digits_decimal _ _ d.ensures.1.0 in
+    let e = d.ensures.digits ∙ digits_decimal _ _ d.ensures.len in
     rw e (search rules)
 
 pub returns : goal.returns
 returns c =
     let d = c.decimal-k in
-    let e = d.ensures.1.1 ∙ digits_decimal _ _ d.ensures.1.0 in
+    let e = d.ensures.digits ∙ digits_decimal _ _ d.ensures.len in
     rw e at c.put.ensures

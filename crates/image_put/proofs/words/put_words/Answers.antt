@@ -39,7 +39,7 @@ pub loop-n-preserved-then-not-is_empty : goal.loop-n-preserved-then-not-is_empty
 loop-n-preserved-then-not-is_empty c =
     let loop = c.loop-n in
     let e = c.put.ensures ∙ ap (over loop.out (c.args.at + 4 * loop.n)) c.u32_bytes-bytes.ensures in
-    left_written _ _ _ _ _ _ _ loop.invariant c.loop-n-test.true (c.type_inv.words loop.i).fits (sym c.is_empty.ensures ∙ not-true _ c.if-not-is_empty.true) c.requires.room (omega arith) e
+    left_written _ _ _ _ _ _ _ loop.invariant c.loop-n-test.true (c.type_inv.words loop.i).fits (sym c.is_empty.ensures ∙ c.if-not-is_empty.true) c.requires.room (omega arith) e
 
 pub loop-n-smaller : goal.loop-n-smaller
 loop-n-smaller c =
@@ -50,7 +50,7 @@ loop-n-smaller c =
 pub loop-n-preserved : goal.loop-n-preserved
 loop-n-preserved c =
     let loop = c.loop-n in
-    left_passed _ _ _ _ _ _ _ loop.invariant c.loop-n-test.true (c.type_inv.words loop.i).fits (sym c.is_empty.ensures ∙ not-false _ c.if-not-is_empty.false)
+    left_passed _ _ _ _ _ _ _ loop.invariant c.loop-n-test.true (c.type_inv.words loop.i).fits (sym c.is_empty.ensures ∙ c.if-not-is_empty.false)
 
 pub returns : goal.returns
 returns c = left_none _ _ _ _ _ _ _ c.loop-n.invariant c.loop-n-test.false
