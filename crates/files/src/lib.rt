@@ -49,18 +49,23 @@ pub fn read_all<R: Read>(from: &mut R, buf: &mut [u8]) -> Got
 }
 
 // The library's paths are text in UTF-8; other bytes name no file here.
-fn open<R: Files>(rt: &R, how: &OpenOptions, path: &[u8]) -> Result<R::File> {
+fn open_as<R: Files>(rt: &R, how: &OpenOptions, path: &[u8]) -> Result<R::File> {
     match str::from_utf8(path) {
         Ok(path) => how.open(rt, path),
         Err(_) => Err(Error::from(ErrorKind::InvalidInput)),
     }
 }
 
+// To read it.
+pub fn open<R: Files>(rt: &R, path: &[u8]) -> Result<R::File> {
+    open_as(rt, OpenOptions::new().read(true), path)
+}
+
 // As much of the file as buf has room for.
 pub fn load<R: Files>(rt: &R, path: &[u8], buf: &mut [u8]) -> Got
     ensures { IsPrefixLen result.n buf.new }
 {
-    match open(rt, OpenOptions::new().read(true), path) {
+    match open(rt, path) {
         Ok(mut file) => read_all(&mut file, buf),
         Err(_) => Got { failed: true, n: 0 },
     }
@@ -69,7 +74,7 @@ pub fn load<R: Files>(rt: &R, path: &[u8], buf: &mut [u8]) -> Got
 // Whether a file may take this name: there is none, or there is one that we may write. A device or a pipe has nothing to sync, and
 // renaming a file over it would take it away.
 fn is_free<R: Files>(rt: &R, path: &[u8]) -> bool {
-    match open(rt, OpenOptions::new().read(true).write(true), path) {
+    match open_as(rt, OpenOptions::new().read(true).write(true), path) {
         Ok(file) => file.sync_all().is_ok(),
         Err(e) => e.kind() == ErrorKind::NotFound,
     }
@@ -114,9 +119,9 @@ fn folder_len(path: &[u8]) -> usize
 fn open_folder<R: Files>(rt: &R, path: &[u8]) -> Result<R::File> {
     let n = folder_len(path);
     if n == 0 {
-        return open(rt, OpenOptions::new().read(true), b".");
+        return open(rt, b".");
     }
-    open(rt, OpenOptions::new().read(true), &path[..n])
+    open(rt, &path[..n])
 }
 
 // The name of a file that was renamed, down to the disk, where the file system can do that. Some cannot sync a folder, and it is not an
@@ -173,7 +178,7 @@ pub fn replace<R: Files>(rt: &R, path: &[u8], bytes: &[u8]) -> bool {
     let mut name = [0u8; 240];
     for i in 100000..1000000 {
         let n = beside(path, i, &mut name);
-        match open(
+        match open_as(
             rt,
             OpenOptions::new().write(true).create_new(true).mode(0o600),
             &name[..n],
