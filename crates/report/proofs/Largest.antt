@@ -35,7 +35,7 @@ most_counted (v ∷ vs) h = go (dec_lt v (most vs)) (most_counted vs)
     some (x ∷ l) k = omega arith
 
     go : Dec (v < most vs) → (0 < length vs → 0 < count_of (most vs) vs) → 0 < count_of (max v (most vs)) (v ∷ vs)
-    go (yes k) rest = rw (max-eq_right {n = v} {m = most vs} (omega arith)) (omega (arith, more (eqb v (most vs)) (count_of (most vs) vs), rest (some vs k)))
+    go (yes k) rest = subst (λ (m : ℕ). 0 < count_of m (v ∷ vs)) (sym (max-eq_right {n = v} {m = most vs} (omega arith))) (omega (arith, more (eqb v (most vs)) (count_of (most vs) vs), rest (some vs k)))
     go (no k) rest = rw (max-eq_left {n = v} {m = most vs} (omega arith), eq-eqb v v refl) (omega arith)
 
 -- a turn of a loop over both, and its end
