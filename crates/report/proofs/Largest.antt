@@ -1,5 +1,5 @@
 -- The laws of `most`: no register is above it, and some register has it; and what a loop over the registers cites. Assumes nothing.
-use mathlib.Core.Path.{◌≡◌, refl}
+use mathlib.Core.Path.{◌≡◌, refl, sym, subst}
 use mathlib.Core.Bool.{Bool, true, false}
 use mathlib.Core.List.{List, [], ◌∷◌}
 use Prim.Native.Nat.{ℕ, zero, suc, ◌+◌, ◌≤◌, ◌<◌, zero-le, max}
@@ -35,7 +35,7 @@ most_counted (v ∷ vs) h = go (dec_lt v (most vs)) (most_counted vs)
     some (x ∷ l) k = omega arith
 
     go : Dec (v < most vs) → (0 < length vs → 0 < count_of (most vs) vs) → 0 < count_of (max v (most vs)) (v ∷ vs)
-    go (yes k) rest = rw (max-eq_right {n = v} {m = most vs} (omega arith)) (omega (arith, more (eqb v (most vs)) (count_of (most vs) vs), rest (some vs k)))
+    go (yes k) rest = subst (λ (m : ℕ). 0 < count_of m (v ∷ vs)) (sym (max-eq_right {n = v} {m = most vs} (omega arith))) (omega (arith, more (eqb v (most vs)) (count_of (most vs) vs), rest (some vs k)))
     go (no k) rest = rw (max-eq_left {n = v} {m = most vs} (omega arith), eq-eqb v v refl) (omega arith)
 
 -- a turn of a loop over both, and its end

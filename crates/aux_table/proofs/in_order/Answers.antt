@@ -8,7 +8,7 @@ use Rattle.model.specs.Coupon.{slot}
 use Rattle.model.specs.Table.{Reached, place}
 use Rattle.model.proofs.table.FirstLaws.{true_not_false}
 use Rattle.aux_table.proofs.in_order.Goals as goal
-use Rattle.aux_table.proofs.in_order.Goals.{then-w-ne0, else-w-ne0}
+use Rattle.aux_table.proofs.in_order.Goals.{then-w-ne0+else-at-i, else-w-ne0}
 
 pub loop-i-init : goal.loop-i-init
 loop-i-init c = (omega arith, below_none _)
@@ -27,7 +27,7 @@ pub loop-i-preserved : goal.loop-i-preserved
 loop-i-preserved c =
     let t = c.args.table.now in
     (omega arith, below_more _ c.loop-i.i c.loop-i.invariant.1 (λ n. elim c.if-w-ne0.branch [
-      then-w-ne0 w ↦ sym (w.probe-at.ensures ∙ ap (place t) w.slot.ensures) ∙ w.if-at-i.false
+      then-w-ne0+else-at-i w ↦ sym (w.probe-at.ensures ∙ ap (place t) w.slot.ensures) ∙ w.if-at-i.false
     | else-w-ne0 w ↦ absurd (n w.if-w-ne0.false)
     ]))
 

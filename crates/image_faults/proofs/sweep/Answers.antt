@@ -10,7 +10,7 @@ pub overflow_sub-b : goal.overflow_sub-b
 overflow_sub-b c = omega (arith, c.size_of.ensures, pow_pos c.args.h.lg_k)
 
 pub windows-requires : goal.windows-requires
-windows-requires c = (c.requires, omega (arith, c.size_of.ensures, sub-b c))
+windows-requires c = (c.requires, omega (arith, c.size_of.ensures, pow_pos c.args.h.lg_k))
 
 pub returns : goal.returns
 returns c =

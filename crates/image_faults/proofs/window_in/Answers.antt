@@ -15,7 +15,11 @@ pub returns : goal.returns
 returns c = view_looks c.pass-walk.ensures _ (c.lesser-end.ensures ∙ ap (min _) c.size_of.ensures) c.unlike-slot.ensures
 
 pub overflow_add-b : goal.overflow_add-b
-overflow_add-b c = omega (arith, few add-lesser)
+overflow_add-b c =
+    let few : c.args.b < 16 = omega (arith, c.requires.2, pow_mono (c.requires.0.high)) in
+    omega arith
 
 pub overflow_mul-b : goal.overflow_mul-b
-overflow_mul-b c = omega (arith, few mul-lesser)
+overflow_mul-b c =
+    let few : c.args.b < 16 = omega (arith, c.requires.2, pow_mono (c.requires.0.high)) in
+    omega arith

@@ -5,7 +5,8 @@ use Rattle.job.proofs.Walk.{left, bytes_left}
 use Rattle.job.proofs.lines_in.Given as goal
 
 abbrev pub invariant-loop-files : goal.invariant-loop-files
-invariant-loop-files l = (l.end ≤ 64) × (end ≤ length l.job) × (l.end + left l.job (64 - l.end) end ≡ left l.job 64 l.at) × (end + bytes_left l.job (64 - l.end) end ≡ l.at + bytes_left l.job 64 l.at)
+invariant-loop-files l =
+    (l.files ≤ 64) × (l.end ≤ length l.job) × (l.files + left l.job (64 - l.files) l.end ≡ left l.job 64 l.at) × (l.end + bytes_left l.job (64 - l.files) l.end ≡ l.at + bytes_left l.job 64 l.at)
 
 abbrev pub decreases-loop-files : goal.decreases-loop-files
-decreases-loop-files l = 64 - l.end
+decreases-loop-files l = 64 - l.files

@@ -84,7 +84,7 @@ put_line-requires c =
         omega (arith, fifth, line_ends _ _ 2 c.put_line-sixth.ensures (search rules)) in
     let seventh : c.put_line-seventh.result ≤ 114 =
         omega (arith, sixth, line_ends _ _ 19 c.put_line-seventh.ensures (search rules)) in
-    line_fits _ _ _ 19 (omega (arith, c.scaled_of-high.type-inv)) (omega (arith, seventh))
+    line_fits _ _ _ 19 (omega (arith, c.scaled_of-high.type_inv)) (omega (arith, seventh))
 
 pub returns : goal.returns
 unfolding merged_text
@@ -104,7 +104,7 @@ returns c =
     let seventh : c.put_line-seventh.result ≤ 114 =
         omega (arith, sixth, line_ends _ _ 19 c.put_line-seventh.ensures (search rules)) in
     let end : c.put_line.result ≤ 141 =
-        omega (arith, seventh, line_ends _ _ 19 c.put_line.ensures (omega (arith, c.scaled_of-high.type-inv))) in
+        omega (arith, seventh, line_ends _ _ 19 c.put_line.ensures (omega (arith, c.scaled_of-high.type_inv))) in
     let room : c.put_line.result ≤ length c.put_line.new.out = omega (arith, end) in
     let counted = c.counts-counts.ensures in
     let R = c.args.regs.now in

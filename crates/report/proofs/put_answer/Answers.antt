@@ -10,4 +10,4 @@ put-requires c = omega (arith, name_few c.args.code)
 
 pub returns : goal.returns
 unfolding line
-returns c = written_next (written_next c.put_name.ensures c.put_name-end.ensures) c.put.ensures
+returns c = written_next (written_next c.put-name.ensures c.put_name-end.ensures) c.put.ensures

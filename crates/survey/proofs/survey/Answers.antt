@@ -23,6 +23,6 @@ returns c =
     record {
       values = whole_values ok other c.largest-largest.ensures;
       spare = whole_spare ok other;
-      tally = c.tally_fits.ensures ∙ tally_is ok (whole_count ok other 0 c.count_zeros.ensures);
+      tally = c.tally_fits.ensures ∙ tally_is ok (whole_count ok other 0 c.count-zeros.ensures);
       tokens = λ four. whole_count ok other 15 (rw four (c.tokens.ensures four));
     }
