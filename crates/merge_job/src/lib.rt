@@ -14,6 +14,11 @@ use model::Sketch;
 use std::io::{Read, Write};
 use std::rt::Files;
 
+// The longest image that is looked at, in bytes, and the largest lg_k that there is memory for.
+const LONGEST: usize = 40000;
+
+const LARGEST: u8 = 12;
+
 // A refusal's number and place, or 0, and the target's record.
 #[derive(Clone, Copy)]
 pub struct Taken {
@@ -26,7 +31,7 @@ pub struct Taken {
 fn front_no(image: &[u8]) -> u8
     ensures { result ≡ front_no image.now }
 {
-    if 40000 < image.len() {
+    if LONGEST < image.len() {
         return 17;
     }
     model::number(image_header::check(image))
@@ -40,7 +45,7 @@ fn large_no(kind: u8, lg_k: u8) -> u8
     if no != 0 {
         return no;
     }
-    if 12 < lg_k {
+    if LARGEST < lg_k {
         return 20;
     }
     0
@@ -179,7 +184,8 @@ fn merge_all<F: Files>(
         let end = from + n;
         let taken = take_file(rt, sketch, tregs, job, done, &job[from..end], &mut image);
         sketch = taken.sketch;
-        if taken.no != 0 {
+        let refused = taken.no != 0;
+        if refused {
             return Ran {
                 no: taken.no,
                 place: taken.place,

@@ -21,9 +21,9 @@ pub take_file-taken-requires : goal.take_file-taken-requires
 take_file-taken-requires g c =
     named c.args.job.now _ _ c.requires c.loop-done.at c.loop-done.done _ c.loop-done-test.true c.loop-done.invariant.2 c.path_in-n.ensures
 
-pub returns-then-taken-ne0 : goal.returns-then-taken-ne0
-returns-then-taken-ne0 g c =
-    refused c.args.target c.args.tregs.now c.loop-done.done c.loop-done.sketch c.loop-done.tregs c.loop-done.invariant.3 _ _ _ _ _ c.take_file-taken.ensures _ c.loop-done-test.true c.if-taken-ne0.true
+pub returns-then-refused : goal.returns-then-refused
+returns-then-refused g c =
+    refused c.args.target c.args.tregs.now c.loop-done.done c.loop-done.sketch c.loop-done.tregs c.loop-done.invariant.3 _ _ _ _ _ c.take_file-taken.ensures _ c.loop-done-test.true c.if-refused.true
 
 pub overflow_add-at : goal.overflow_add-at
 overflow_add-at g c =
@@ -35,7 +35,7 @@ loop-done-preserved g c =
       omega arith,
       search rules,
       one_less c.args.job.now _ _ c.requires t.at t.done _ c.loop-done-test.true t.invariant.2 c.path_in-n.ensures,
-      passed c.args.target c.args.tregs.now t.done t.sketch t.tregs t.invariant.3 _ _ _ _ _ c.take_file-taken.ensures c.if-taken-ne0.false,
+      passed c.args.target c.args.tregs.now t.done t.sketch t.tregs t.invariant.3 _ _ _ _ _ c.take_file-taken.ensures c.if-refused.false,
     )
 
 pub returns : goal.returns
