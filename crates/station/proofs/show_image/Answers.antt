@@ -2,7 +2,7 @@
 use Rattle.station.proofs.show_image.Goals as goal
 
 pub expect-requires : goal.expect-requires
-expect-requires c = rw c.write_out-i.ensures
+expect-requires g c = rw c.write_out-i.ensures
 
 pub expect-requires-2 : goal.expect-requires-2
-expect-requires-2 c = rw c.write_out-i.ensures
+expect-requires-2 g c = rw c.write_out-i.ensures

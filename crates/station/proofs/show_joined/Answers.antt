@@ -2,16 +2,16 @@
 use Rattle.station.proofs.show_joined.Goals as goal
 
 pub expect-requires : goal.expect-requires
-expect-requires c = rw c.fill_eight-e.ensures
+expect-requires g c = rw c.fill_eight-e.ensures
 
 pub expect-requires-2 : goal.expect-requires-2
-expect-requires-2 c = rw c.fill_eight-e.ensures
+expect-requires-2 g c = rw c.fill_eight-e.ensures
 
 pub expect-requires-3 : goal.expect-requires-3
-expect-requires-3 c = rw c.fill_eight-e.ensures
+expect-requires-3 g c = rw c.fill_eight-e.ensures
 
 pub expect-requires-4 : goal.expect-requires-4
-expect-requires-4 c = rw c.join-j.ensures
+expect-requires-4 g c = rw c.join-j.ensures
 
 pub expect-requires-5 : goal.expect-requires-5
-expect-requires-5 c = rw c.join-j.ensures
+expect-requires-5 g c = rw c.join-j.ensures

@@ -4,10 +4,10 @@ use Rattle.station.specs.declared.Refused.{Refused}
 use Rattle.station.proofs.show_refusal.Goals as goal
 
 pub expect-requires : goal.expect-requires
-expect-requires c = c.same.ensures.1 (ap (λ (r : Refused). r.regs) c.refuse-r.ensures)
+expect-requires g c = c.same.ensures.1 (ap (λ (r : Refused). r.regs) c.refuse-r.ensures)
 
 pub expect-requires-2 : goal.expect-requires-2
-expect-requires-2 c = rw c.refuse-r.ensures
+expect-requires-2 g c = rw c.refuse-r.ensures
 
 pub expect-requires-3 : goal.expect-requires-3
-expect-requires-3 c = rw c.refuse-r.ensures
+expect-requires-3 g c = rw c.refuse-r.ensures
