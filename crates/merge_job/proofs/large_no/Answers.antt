@@ -11,10 +11,10 @@ pub returns-then-lg_k-gt12 : goal.returns-then-lg_k-gt12
 returns-then-lg_k-gt12 c =
     let formed : let a = c.args in form_no a.kind a.lg_k ≡ 0 =
         sym c.form.ensures ∙ sym c.number-no.ensures ∙ c.if-no-ne0.false in
-    large_off _ _ (formed) c.if-lg_k-gt12.true
+    large_off _ _ formed c.if-lg_k-gt12.true
 
 pub returns : goal.returns
 returns c =
     let formed : let a = c.args in form_no a.kind a.lg_k ≡ 0 =
         sym c.form.ensures ∙ sym c.number-no.ensures ∙ c.if-no-ne0.false in
-    large_right _ _ (formed) c.if-lg_k-gt12.false
+    large_right _ _ formed c.if-lg_k-gt12.false

@@ -14,7 +14,7 @@ pub returns-then-not-sized : goal.returns-then-not-sized
 returns-then-not-sized c =
     let known : is_kind c.args.kind ≡ true =
         sym c.is_kind-known.ensures ∙ c.if-not-known.false in
-    shape_lgk _ _ _ (known) (lgk_off _ _ c.is_lg_k-sized.ensures c.if-not-sized.true)
+    shape_lgk _ _ _ known (lgk_off _ _ c.is_lg_k-sized.ensures c.if-not-sized.true)
 
 pub bytes_of-requires : goal.bytes_of-requires
 bytes_of-requires c = (c.is_lg_k-sized.ensures.0 c.if-not-sized.false).1
@@ -25,7 +25,7 @@ returns-then-len-bytes_of c =
         sym c.is_kind-known.ensures ∙ c.if-not-known.false in
     let sized : lgk_no c.args.lg_k ≡ 0 =
         lgk_right _ _ c.is_lg_k-sized.ensures c.if-not-sized.false in
-    shape_size _ _ _ (known) (sized) (size_off _ _ _ (λ z. c.if-len-bytes_of.true (z ∙ sym c.bytes_of.ensures)))
+    shape_size _ _ _ known sized (size_off _ _ _ (λ z. c.if-len-bytes_of.true (z ∙ sym c.bytes_of.ensures)))
 
 pub returns : goal.returns
 returns c =
@@ -33,4 +33,4 @@ returns c =
         sym c.is_kind-known.ensures ∙ c.if-not-known.false in
     let sized : lgk_no c.args.lg_k ≡ 0 =
         lgk_right _ _ c.is_lg_k-sized.ensures c.if-not-sized.false in
-    shape_fits _ _ _ (known) (sized) (size_right _ _ _ (c.if-len-bytes_of.false ∙ c.bytes_of.ensures))
+    shape_fits _ _ _ known sized (size_right _ _ _ (c.if-len-bytes_of.false ∙ c.bytes_of.ensures))
