@@ -28,7 +28,7 @@ shape_of-scratch-then-not-u c =
 
 pub returns-then-not-u : goal.returns-then-not-u
 returns-then-not-u c =
-    feeding.feeding_stop c.loop-i.invariant.3 c.loop-i-test.true _ _ _ _ c.update-u.ensures c.if-not-u.true ∙ feeding.feeding_is _ _ _ _ c.requires.kind
+    feeding.feeding_stop c.loop-i.invariant.3 c.loop-i-test.true _ _ _ _ c.update-u.ensures (not-true _ c.if-not-u.true) ∙ feeding.feeding_is _ _ _ _ c.requires.kind
 
 pub loop-i-smaller : goal.loop-i-smaller
 loop-i-smaller c =
@@ -39,7 +39,7 @@ loop-i-preserved c = (
   c.update-u.auto.regs ∙ c.loop-i.invariant.0,
   c.update-u.auto.aux ∙ c.loop-i.invariant.1,
   c.update-u.auto.scratch ∙ c.loop-i.invariant.2,
-  feeding.feeding_more c.loop-i.invariant.3 c.loop-i-test.true _ _ _ _ c.update-u.ensures c.if-not-u.false (λ i. (c.type_inv.regs i).fits) c.update-u.auto.aux,
+  feeding.feeding_more c.loop-i.invariant.3 c.loop-i-test.true _ _ _ _ c.update-u.ensures (not-false _ c.if-not-u.false) (λ i. (c.type_inv.regs i).fits) c.update-u.auto.aux,
 )
 
 pub shape_of-regs : goal.shape_of-regs

@@ -9,15 +9,15 @@ loop-at-init c = lowering.lowering_none _
 
 pub lower_byte-byte-requires : goal.lower_byte-byte-requires
 lower_byte-byte-requires c =
-    lowering.lowering_above (λ i. (c.type_inv.regs i).fits) c.loop-at.invariant (omega (arith, c.loop-at.invariant.long)) c.requires
+    lowering.lowering_above (λ i. (c.slice_known-1.given i).fits) c.loop-at.invariant (omega (arith, c.loop-at.invariant.long)) c.requires
 
 pub loop-at-preserved : goal.loop-at-preserved
 loop-at-preserved c =
-    lowering.lowering_more (λ i. (c.type_inv.regs i).fits) c.loop-at.invariant (omega (arith, c.loop-at.invariant.long)) _ _ _ c.lower_byte-byte.ensures c.one_if.ensures.0 c.one_if-in-loop-at.ensures.0
+    lowering.lowering_more (λ i. (c.slice_known-1.given i).fits) c.loop-at.invariant (omega (arith, c.loop-at.invariant.long)) _ _ _ c.lower_byte-byte.ensures c.one_if.ensures.0 c.one_if-in-loop-at.ensures.0
 
 pub overflow_add-n-in-loop-at : goal.overflow_add-n-in-loop-at
-overflow_add-n-in-loop-at c = let t = loop-again c in omega (arith, lowering.lowering_few (λ i. (c.type_inv.regs i).fits) t, t.upto, c.requires.few)
+overflow_add-n-in-loop-at c = let t = lowering.lowering_more (λ i. (c.slice_known-1.given i).fits) c.loop-at.invariant (omega (arith, c.loop-at.invariant.long)) _ _ _ c.lower_byte-byte.ensures c.one_if.ensures.0 c.one_if-in-loop-at.ensures.0 in omega (arith, lowering.lowering_few (λ i. (c.slice_known-1.given i).fits) t, t.upto, c.requires.few)
 
 pub returns : goal.returns
 returns c =
-    lowering.lowering_all (λ i. (c.type_inv.regs i).fits) c.loop-at.invariant (omega (arith, c.loop-at.invariant.upto, c.loop-at.invariant.long))
+    lowering.lowering_all (λ i. (c.slice_known-1.given i).fits) c.loop-at.invariant (omega (arith, c.loop-at.invariant.upto, c.loop-at.invariant.long))

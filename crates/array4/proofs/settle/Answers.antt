@@ -23,10 +23,10 @@ loop-num-smaller c =
 
 pub loop-num-preserved : goal.loop-num-preserved
 loop-num-preserved c =
-    let k = c.shift_to_bigger_cur_min-risen.auto.s in (
-      k.1.0 ∙ c.loop-num.invariant.0,
-      k.1.1.0 ∙ c.loop-num.invariant.1,
-      k.1.1.1.0 ∙ c.loop-num.invariant.2,
+    let k = c.shift_to_bigger_cur_min-risen.auto in (
+      k.regs ∙ c.loop-num.invariant.0,
+      k.aux ∙ c.loop-num.invariant.1,
+      k.scratch ∙ c.loop-num.invariant.2,
       settling.settling_more c.loop-num.invariant.3 c.loop-num-test.true c.shift_to_bigger_cur_min-risen.ensures,
     )
 

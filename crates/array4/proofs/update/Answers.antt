@@ -38,12 +38,12 @@ place-placed-requires c =
 
 pub returns-then-not-placed : goal.returns-then-not-placed
 returns-then-not-placed c =
-    updating.refused c.requires _ _ c.value-value.ensures _ c.home-slot.ensures _ c.get_raw-raw.ensures _ c.old_value-old.ensures c.if-value-old.false _ _ _ _ c.place-placed.ensures c.if-not-placed.true
+    updating.refused c.requires _ _ c.value-value.ensures _ c.home-slot.ensures _ c.get_raw-raw.ensures _ c.old_value-old.ensures c.if-value-old.false _ _ _ _ c.place-placed.ensures (not-true _ c.if-not-placed.true)
 
 pub settle-settled-requires : goal.settle-settled-requires
 settle-settled-requires c =
-    updating.holding c.requires _ _ c.value-value.ensures _ c.home-slot.ensures _ c.get_raw-raw.ensures _ c.old_value-old.ensures c.if-value-old.false _ _ _ _ c.place-placed.ensures c.if-not-placed.false _ (omega (arith, c.requires.spare, c.place-placed.auto.aux, c.place-placed.auto.scratch))
+    updating.holding c.requires _ _ c.value-value.ensures _ c.home-slot.ensures _ c.get_raw-raw.ensures _ c.old_value-old.ensures c.if-value-old.false _ _ _ _ c.place-placed.ensures (not-false _ c.if-not-placed.false) _ (omega (arith, c.requires.spare, c.place-placed.auto.aux, c.place-placed.auto.scratch))
 
 pub returns : goal.returns
 returns c =
-    updating.stepped c.requires _ _ c.value-value.ensures _ c.home-slot.ensures _ c.get_raw-raw.ensures _ c.old_value-old.ensures c.if-value-old.false _ _ _ _ c.place-placed.ensures c.if-not-placed.false c.settle-settled.ensures
+    updating.stepped c.requires _ _ c.value-value.ensures _ c.home-slot.ensures _ c.get_raw-raw.ensures _ c.old_value-old.ensures c.if-value-old.false _ _ _ _ c.place-placed.ensures (not-false _ c.if-not-placed.false) c.settle-settled.ensures

@@ -7,7 +7,7 @@ use borrow.Author.Tests.{not-true, not-false}
 use Rattle.model.proofs.table.FirstLaws.{true_not_false}
 use Rattle.model.proofs.order.Tells.{tells_no}
 use Rattle.array4_read.proofs.words_fit.Goals as goal
-use Rattle.array4_read.proofs.words_fit.Goals.{then-w-ne0, else-w-ne0}
+use Rattle.array4_read.proofs.words_fit.Goals.{then-w-ne0+else-not-fits, else-w-ne0}
 
 pub loop-i-init : goal.loop-i-init
 loop-i-init c = (omega arith, below_none _)
@@ -19,7 +19,7 @@ returns-then-not-fits c =
 pub loop-i-preserved : goal.loop-i-preserved
 loop-i-preserved c =
     (omega arith, below_more _ c.loop-i.i c.loop-i.invariant.1 (λ n. elim c.if-w-ne0.branch [
-      then-w-ne0 w ↦ w.word_fits-fits.ensures.0 w.if-not-fits.false
+      then-w-ne0+else-not-fits w ↦ w.word_fits-fits.ensures.0 w.if-not-fits.false
     | else-w-ne0 w ↦ absurd (n w.if-w-ne0.false)
     ]))
 

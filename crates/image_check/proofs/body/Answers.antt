@@ -41,7 +41,7 @@ returns-then-not-seen c =
         subst (λ (s : Sketch). Surveyed s (take (40 + c.bytes_of-end.result - 40) (drop 40 c.args.image.now)) c.survey-seen.result) c.sketch_of.ensures c.survey-seen.ensures in
     let seen : let l = c.args.image.now in Surveyed (sketch_in l) (regs_in l) c.survey-seen.result =
         surveyed c.requires _ c.bytes_of-end.ensures (told) in
-    low_in _ (body_values _ (seen).values c.if-not-seen.true) (omega arith)
+    low_in _ (body_values _ (seen).values (not-true _ c.if-not-seen.true)) (omega arith)
 
 pub aux_fault-listed-requires : goal.aux_fault-listed-requires
 aux_fault-listed-requires c =
@@ -57,7 +57,7 @@ returns-then-number-ne0 c =
         surveyed c.requires _ c.bytes_of-end.ensures (told) in
     let listed_off : (aux_in c.args.image.now).no ≡ 0 → ⊥ =
         λ z. c.if-number-ne0.true (c.number.ensures ∙ ap (λ (f : Said). f.no) c.aux_fault-listed.ensures ∙ z) in
-    c.aux_fault-listed.ensures ∙ aux_in_lem _ (body_aux _ (seen).values c.if-not-seen.false _ refl (listed_off)) (listed_off)
+    c.aux_fault-listed.ensures ∙ aux_in_lem _ (body_aux _ (seen).values (not-false _ c.if-not-seen.false) _ refl (listed_off)) (listed_off)
 
 pub returns-then-not-seen-2 : goal.returns-then-not-seen-2
 returns-then-not-seen-2 c =
@@ -68,7 +68,7 @@ returns-then-not-seen-2 c =
     let listed_ok : (aux_in c.args.image.now).no ≡ 0 =
         ap (λ (f : Said). f.no) (sym c.aux_fault-listed.ensures) ∙ sym c.number.ensures ∙ c.if-number-ne0.false in
     let s = seen in
-    low_in _ (body_spare _ s.values c.if-not-seen.false (listed_ok) s.spare c.if-not-seen-2.true) (omega arith)
+    low_in _ (body_spare _ s.values (not-false _ c.if-not-seen.false) (listed_ok) s.spare (not-true _ c.if-not-seen-2.true)) (omega arith)
 
 pub returns-then-not-seen-3 : goal.returns-then-not-seen-3
 returns-then-not-seen-3 c =
@@ -79,7 +79,7 @@ returns-then-not-seen-3 c =
     let listed_ok : (aux_in c.args.image.now).no ≡ 0 =
         ap (λ (f : Said). f.no) (sym c.aux_fault-listed.ensures) ∙ sym c.number.ensures ∙ c.if-number-ne0.false in
     let s = seen in
-    low_in _ (body_tally _ s.values c.if-not-seen.false (listed_ok) s.spare s.tally c.if-not-seen-2.false c.if-not-seen-3.true) (omega arith)
+    low_in _ (body_tally _ s.values (not-false _ c.if-not-seen.false) (listed_ok) s.spare s.tally (not-false _ c.if-not-seen-2.false) (not-true _ c.if-not-seen-3.true)) (omega arith)
 
 pub returns : goal.returns
 returns c =
@@ -90,4 +90,4 @@ returns c =
     let listed_ok : (aux_in c.args.image.now).no ≡ 0 =
         ap (λ (f : Said). f.no) (sym c.aux_fault-listed.ensures) ∙ sym c.number.ensures ∙ c.if-number-ne0.false in
     let s = seen in
-    low_in _ (body_right _ s.values c.if-not-seen.false (listed_ok) s.spare s.tally c.if-not-seen-2.false c.if-not-seen-3.false) (omega arith)
+    low_in _ (body_right _ s.values (not-false _ c.if-not-seen.false) (listed_ok) s.spare s.tally (not-false _ c.if-not-seen-2.false) (not-false _ c.if-not-seen-3.false)) (omega arith)

@@ -41,7 +41,7 @@ body-requires c =
         sym c.counts-c.ensures ∙ sym c.number-3.ensures ∙ c.if-number-ne0-3.false in
     let has_form : Formed c.args.image.now c.args.h =
         record { headed = c.requires; form = form_ok } in
-    record { formed = has_form; c.before.before.before = counts_ok }
+    record { formed = has_form; counts = counts_ok }
 
 pub returns-then-number-ne0 : goal.returns-then-number-ne0
 returns-then-number-ne0 c = at_form c.requires _ _ _ c.form-a.result c.form-a.ensures (λ e. c.if-number-ne0.true (c.number.ensures ∙ e))

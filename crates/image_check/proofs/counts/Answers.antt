@@ -13,7 +13,6 @@ use Rattle.model.proofs.packing.Lengths.{bytes_few}
 use Rattle.image_header.proofs.Headers.{lg_arr_is}
 use Rattle.image_check.proofs.Passing.{formed, is_in, end_is, words_small}
 use Rattle.image_check.proofs.counts.Goals as goal
-)
 
 -- where the payload ends
 pub counts_fit-fit-requires : goal.counts_fit-fit-requires
@@ -43,27 +42,33 @@ word_count-many-requires c = sym c.lg_arr_fits-form.ensures ∙ c.if-not-form.fa
 
 pub overflow_add-bytes : goal.overflow_add-bytes
 overflow_add-bytes c =
-    let few : (c.bytes_of-bytes.result ≤ 2 ^ 21) × (c.word_count-many.result < 2 ^ 32) =
-        (
-  rw c.bytes_of-bytes.ensures (bytes_few _ _ (formed c.requires).1.1),
-  rw c.word_count-many.ensures (words_small c.requires (counts arr.before.before) (sym c.lg_arr_fits-form.ensures ∙ c.if-not-form.false)), in
-    omega (arith, few)
+    let fit_is : c.counts_fit-fit.result ≡ counts_fit (sketch_in c.args.image.now) =
+        c.counts_fit-fit.ensures ∙ ap counts_fit (c.sketch_of.ensures ∙ is_in c.requires) in
+    let counts : counts_fit (sketch_in c.args.image.now) ≡ true =
+        sym (fit_is) ∙ c.if-not-fit.false in
+    let bytes : c.bytes_of-bytes.result ≤ 2 ^ 21 = rw c.bytes_of-bytes.ensures (bytes_few _ _ (formed c.requires).1.1) in
+    let words : c.word_count-many.result < 2 ^ 32 = rw c.word_count-many.ensures (words_small c.requires counts (sym c.lg_arr_fits-form.ensures ∙ c.if-not-form.false)) in
+    omega arith
 
 pub overflow_mul-many : goal.overflow_mul-many
 overflow_mul-many c =
-    let few : (c.bytes_of-bytes.result ≤ 2 ^ 21) × (c.word_count-many.result < 2 ^ 32) =
-        (
-  rw c.bytes_of-bytes.ensures (bytes_few _ _ (formed c.requires).1.1),
-  rw c.word_count-many.ensures (words_small c.requires (counts arr.before.before) (sym c.lg_arr_fits-form.ensures ∙ c.if-not-form.false)), in
-    omega (arith, few)
+    let fit_is : c.counts_fit-fit.result ≡ counts_fit (sketch_in c.args.image.now) =
+        c.counts_fit-fit.ensures ∙ ap counts_fit (c.sketch_of.ensures ∙ is_in c.requires) in
+    let counts : counts_fit (sketch_in c.args.image.now) ≡ true =
+        sym (fit_is) ∙ c.if-not-fit.false in
+    let bytes : c.bytes_of-bytes.result ≤ 2 ^ 21 = rw c.bytes_of-bytes.ensures (bytes_few _ _ (formed c.requires).1.1) in
+    let words : c.word_count-many.result < 2 ^ 32 = rw c.word_count-many.ensures (words_small c.requires counts (sym c.lg_arr_fits-form.ensures ∙ c.if-not-form.false)) in
+    omega arith
 
 pub overflow_add-bytes-2 : goal.overflow_add-bytes-2
 overflow_add-bytes-2 c =
-    let few : (c.bytes_of-bytes.result ≤ 2 ^ 21) × (c.word_count-many.result < 2 ^ 32) =
-        (
-  rw c.bytes_of-bytes.ensures (bytes_few _ _ (formed c.requires).1.1),
-  rw c.word_count-many.ensures (words_small c.requires (counts arr.before.before) (sym c.lg_arr_fits-form.ensures ∙ c.if-not-form.false)), in
-    omega (arith, few)
+    let fit_is : c.counts_fit-fit.result ≡ counts_fit (sketch_in c.args.image.now) =
+        c.counts_fit-fit.ensures ∙ ap counts_fit (c.sketch_of.ensures ∙ is_in c.requires) in
+    let counts : counts_fit (sketch_in c.args.image.now) ≡ true =
+        sym (fit_is) ∙ c.if-not-fit.false in
+    let bytes : c.bytes_of-bytes.result ≤ 2 ^ 21 = rw c.bytes_of-bytes.ensures (bytes_few _ _ (formed c.requires).1.1) in
+    let words : c.word_count-many.result < 2 ^ 32 = rw c.word_count-many.ensures (words_small c.requires counts (sym c.lg_arr_fits-form.ensures ∙ c.if-not-form.false)) in
+    omega arith
 
 pub returns-then-image-bytes : goal.returns-then-image-bytes
 returns-then-image-bytes c =

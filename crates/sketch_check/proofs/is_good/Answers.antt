@@ -11,17 +11,17 @@ pub survey-seen-requires : goal.survey-seen-requires
 survey-seen-requires c = record { shaped = c.requires; counts = sym c.counts_fit-counts.ensures ∙ c.if-not-counts.false }
 
 pub returns-then-not-seen : goal.returns-then-not-seen
-returns-then-not-seen c = no_values _ _ _ c.counts_fit-counts.ensures c.survey-seen.ensures c.if-not-seen.true
+returns-then-not-seen c = no_values _ _ _ c.counts_fit-counts.ensures c.survey-seen.ensures (not-true _ c.if-not-seen.true)
 
 pub returns-then-not-seen-2 : goal.returns-then-not-seen-2
-returns-then-not-seen-2 c = no_spare _ _ _ c.counts_fit-counts.ensures c.survey-seen.ensures c.if-not-seen-2.true
+returns-then-not-seen-2 c = no_spare _ _ _ c.counts_fit-counts.ensures c.survey-seen.ensures (not-true _ c.if-not-seen-2.true)
 
 pub returns-then-not-seen-3 : goal.returns-then-not-seen-3
-returns-then-not-seen-3 c = no_tally _ _ _ c.counts_fit-counts.ensures c.survey-seen.ensures c.if-not-seen-3.true
+returns-then-not-seen-3 c = no_tally _ _ _ c.counts_fit-counts.ensures c.survey-seen.ensures (not-true _ c.if-not-seen-3.true)
 
 pub returns-then-s-ne4 : goal.returns-then-s-ne4
 returns-then-s-ne4 c =
-    plain_good _ _ _ c.counts_fit-counts.ensures c.survey-seen.ensures c.if-not-counts.false c.if-not-seen.false c.if-not-seen-2.false c.if-not-seen-3.false
+    plain_good _ _ _ c.counts_fit-counts.ensures c.survey-seen.ensures c.if-not-counts.false (not-false _ c.if-not-seen.false) (not-false _ c.if-not-seen-2.false) (not-false _ c.if-not-seen-3.false)
     c.if-s-ne4.true
 
 pub table_fits-requires : goal.table_fits-requires
@@ -30,5 +30,5 @@ table_fits-requires c =
 
 pub returns : goal.returns
 returns c =
-    table_good _ _ _ c.counts_fit-counts.ensures c.survey-seen.ensures c.if-not-counts.false c.if-not-seen.false c.if-not-seen-2.false c.if-not-seen-3.false
+    table_good _ _ _ c.counts_fit-counts.ensures c.survey-seen.ensures c.if-not-counts.false (not-false _ c.if-not-seen.false) (not-false _ c.if-not-seen-2.false) (not-false _ c.if-not-seen-3.false)
     c.if-s-ne4.false c.table_fits.ensures
