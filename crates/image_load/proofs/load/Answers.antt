@@ -27,7 +27,6 @@ returns-then-number-ne0 c =
     ∙ open_refused a.image.now a.regs.now a.aux.now a.scratch.now c.check-answer.ensures (λ e. c.if-number-ne0.true (c.number.ensures ∙ e))
 
 pub slice_bounds-copy-end : goal.slice_bounds-copy-end
-unfolding accepted
 slice_bounds-copy-end c =
     let passed : let a = c.args in open_no a.image.now (length a.regs.now) (length a.aux.now) (length a.scratch.now) ≡ 0 =
         ap (λ (f : Said). f.no) (sym c.check-answer.ensures) ∙ sym c.number.ensures ∙ c.if-number-ne0.false in
@@ -49,7 +48,7 @@ lay-requires c =
     }
 
 pub returns : goal.returns
-unfolding area_in accepted
+unfolding area_in
 returns c =
     let passed : let a = c.args in open_no a.image.now (length a.regs.now) (length a.aux.now) (length a.scratch.now) ≡ 0 =
         ap (λ (f : Said). f.no) (sym c.check-answer.ensures) ∙ sym c.number.ensures ∙ c.if-number-ne0.false in

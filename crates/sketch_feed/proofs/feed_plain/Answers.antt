@@ -9,11 +9,11 @@ pub feed-left-requires : goal.feed-left-requires
 feed-left-requires c =
     let pre = c.requires in
     let eight = c.if-s-eq8.true in
-    eight_ready _ _ eight (kind_as pre.shaped eight) (λ i. (c.type_inv.regs i).fits) _ pre.good
+    eight_ready _ _ eight (kind_as pre.shaped eight) (λ i. (c.slice_known-1.given i).fits) _ pre.good
 
 pub returns-then-s-eq8 : goal.returns-then-s-eq8
 returns-then-s-eq8 c =
-    fed_8 c.requires c.if-s-eq8.true (λ i. (c.type_inv.regs i).fits) c.feed-left.ensures c.plain.ensures
+    fed_8 c.requires c.if-s-eq8.true (λ i. (c.slice_known-1.given i).fits) c.feed-left.ensures c.plain.ensures
 
 pub feed-left-requires-2 : goal.feed-left-requires-2
 feed-left-requires-2 c =
