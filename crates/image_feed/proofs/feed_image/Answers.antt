@@ -56,7 +56,7 @@ slice_bounds-feed_words-count c =
         ap (λ (x : Said). x.no) (sym c.check-theirs.ensures) ∙ sym c.number-3.ensures ∙ c.if-number-ne0-3.false in
     let whole : let k = c.coupons_in-c.result in k.words + 4 * k.count ≤ length c.args.image.now =
         let l = c.args.image.now in
-    subst (λ (k : Coupons). k.words + 4 * k.count ≤ length l) (sym (read d)) (coupons_long l _ (right)) in
+    subst (λ (k : Coupons). k.words + 4 * k.count ≤ length l) (sym c.coupons_in-c.ensures) (coupons_long l _ (right)) in
     omega (arith, whole)
 
 pub slice_bounds-feed_words-start : goal.slice_bounds-feed_words-start
@@ -65,7 +65,7 @@ slice_bounds-feed_words-start c =
         ap (λ (x : Said). x.no) (sym c.check-theirs.ensures) ∙ sym c.number-3.ensures ∙ c.if-number-ne0-3.false in
     let whole : let k = c.coupons_in-c.result in k.words + 4 * k.count ≤ length c.args.image.now =
         let l = c.args.image.now in
-    subst (λ (k : Coupons). k.words + 4 * k.count ≤ length l) (sym (read d)) (coupons_long l _ (right)) in
+    subst (λ (k : Coupons). k.words + 4 * k.count ≤ length l) (sym c.coupons_in-c.ensures) (coupons_long l _ (right)) in
     omega (arith, whole)
 
 pub feed_words-requires : goal.feed_words-requires
@@ -77,10 +77,10 @@ feed_words-requires c =
         ap (λ (x : Said). x.no) (sym c.check-theirs.ensures) ∙ sym c.number-3.ensures ∙ c.if-number-ne0-3.false in
     let whole : let k = c.coupons_in-c.result in k.words + 4 * k.count ≤ length c.args.image.now =
         let l = c.args.image.now in
-    subst (λ (k : Coupons). k.words + 4 * k.count ≤ length l) (sym (read d)) (coupons_long l _ (right)) in
+    subst (λ (k : Coupons). k.words + 4 * k.count ≤ length l) (sym c.coupons_in-c.ensures) (coupons_long l _ (right)) in
     let l = c.args.image.now in
     let part = ap length (from_on c.coupons_in-c.result.words l) ∙ length-drop c.coupons_in-c.result.words l in
-    (ready _ _ _ _ (good) (λ i. (c.type_inv.regs i).fits), omega (arith, whole))
+    (ready _ _ _ _ (good) (λ i. (c.slice_known-1.given i).fits), omega (arith, whole))
 
 pub returns : goal.returns
 returns c =

@@ -6,7 +6,6 @@ use Rattle.model.specs.Calls.{eight_no}
 use Rattle.model.proofs.calls.Places.{check_place, eight_place}
 use Rattle.sketch.proofs.Merging.{merge_target, merge_source, merge_finer, Accepted, joinable, after_cells, merge_ok}
 use Rattle.sketch.proofs.merge.Goals as goal
-}
 
 pub returns-then-number-ne0 : goal.returns-then-number-ne0
 returns-then-number-ne0 c = merge_target _ _ _ _ _ c.check_eight-mine.ensures (eight_place c.check_eight-mine.result _ _ c.check_eight-mine.ensures) (λ e. c.if-number-ne0.true (c.number.ensures ∙ e))
@@ -33,11 +32,12 @@ join-requires c =
         sym c.check-theirs.ensures ∙ sym c.number-2.ensures ∙ c.if-number-ne0-2.false in
     let accepted : let a = c.args in Accepted a.target a.tregs.now a.source a.sregs.now a.saux.now =
         record {
-  target = target_ok;
-  source = source_ok;
-  coarser = c.if-source-target.false;
-  tbytes = λ i. (c.type_inv.tregs i).fits;
-  sbytes = λ i. (c.type_inv.sregs i).fits; in
+          target = target_ok;
+          source = source_ok;
+          coarser = c.if-source-target.false;
+          tbytes = λ i. (c.slice_known-1.given i).fits;
+          sbytes = λ i. (c.type_inv.sregs i).fits;
+        } in
     joinable (accepted)
 
 pub count-left-requires : goal.count-left-requires
@@ -48,11 +48,12 @@ count-left-requires c =
         sym c.check-theirs.ensures ∙ sym c.number-2.ensures ∙ c.if-number-ne0-2.false in
     let accepted : let a = c.args in Accepted a.target a.tregs.now a.source a.sregs.now a.saux.now =
         record {
-  target = target_ok;
-  source = source_ok;
-  coarser = c.if-source-target.false;
-  tbytes = λ i. (c.type_inv.tregs i).fits;
-  sbytes = λ i. (c.type_inv.sregs i).fits; in
+          target = target_ok;
+          source = source_ok;
+          coarser = c.if-source-target.false;
+          tbytes = λ i. (c.slice_known-1.given i).fits;
+          sbytes = λ i. (c.type_inv.sregs i).fits;
+        } in
     after_cells (accepted) c.join.ensures
 
 pub returns : goal.returns
@@ -63,9 +64,10 @@ returns c =
         sym c.check-theirs.ensures ∙ sym c.number-2.ensures ∙ c.if-number-ne0-2.false in
     let accepted : let a = c.args in Accepted a.target a.tregs.now a.source a.sregs.now a.saux.now =
         record {
-  target = target_ok;
-  source = source_ok;
-  coarser = c.if-source-target.false;
-  tbytes = λ i. (c.type_inv.tregs i).fits;
-  sbytes = λ i. (c.type_inv.sregs i).fits; in
+          target = target_ok;
+          source = source_ok;
+          coarser = c.if-source-target.false;
+          tbytes = λ i. (c.slice_known-1.given i).fits;
+          sbytes = λ i. (c.type_inv.sregs i).fits;
+        } in
     merge_ok (accepted) c.join.ensures c.count-left.ensures c.plain.ensures
