@@ -5,4 +5,4 @@ use Rattle.station_routes.proofs.Journeys.{image_whole}
 use Rattle.station_routes.proofs.image_of.Goals as goal
 
 pub returns : goal.returns
-returns c = ap (λ (w : Written). w.out) c.write.ensures ∙ image_whole _ h refl
+returns c = λ got h. ap (λ (w : Written). w.out) c.write.ensures ∙ image_whole _ h refl

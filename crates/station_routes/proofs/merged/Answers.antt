@@ -4,4 +4,4 @@ use Rattle.station_routes.proofs.Histories.{stands_merge}
 use Rattle.station_routes.proofs.merged.Goals as goal
 
 pub returns : goal.returns
-returns c = stands_merge c.merge-made.ensures h j (omega arith)
+returns c = λ kind got more h j. stands_merge c.merge-made.ensures h j (omega arith)

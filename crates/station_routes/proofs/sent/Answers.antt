@@ -5,5 +5,5 @@ use Rattle.station_routes.proofs.Journeys.{stands_send}
 use Rattle.station_routes.proofs.sent.Goals as goal
 
 pub returns : goal.returns
-returns c =
-    stands_send _ _ _ _ c.write.ensures c.«open».ensures h (room_four refl refl refl) room_image
+returns c = λ got h.
+    stands_send _ _ _ _ c.write.ensures c.open-made.ensures h (room_four refl refl refl) room_image

@@ -4,4 +4,4 @@ use Rattle.station_routes.proofs.Histories.{stands_feed}
 use Rattle.station_routes.proofs.with_coupons.Goals as goal
 
 pub returns : goal.returns
-returns c = stands_feed _ _ c.feed-fed.ensures h (λ q. absurd (omega arith)) (λ q. absurd (omega arith))
+returns c = λ got h. stands_feed _ _ c.feed-fed.ensures h (λ q. absurd (omega arith)) (λ q. absurd (omega arith))
