@@ -2,7 +2,6 @@
 use mathlib.Core.Path.{◌≡◌, sym, ◌∙◌}
 use mathlib.Core.Bool.{true, false}
 use lib.ListN.{length}
-use borrow.Author.Tests.{not-true, not-false}
 use Rattle.model.specs.Check.{shape_no}
 use Rattle.model.proofs.calls.Ladder.{shape_says}
 use Rattle.model.proofs.calls.Rungs.{check_shape, check_lent, check_good}

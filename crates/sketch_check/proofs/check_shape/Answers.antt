@@ -1,7 +1,6 @@
 -- `sketch_check::check_shape` meets its contract: one law of the ladder for each return. Assumes nothing.
 use mathlib.Core.Path.{◌≡◌, sym, ◌∙◌}
 use mathlib.Core.Bool.{true}
-use borrow.Author.Tests.{not-true, not-false}
 use Rattle.model.specs.Sketch.{is_kind}
 use Rattle.model.specs.Check.{lgk_no}
 use Rattle.model.proofs.calls.Rungs.{lgk_off, lgk_right, size_off, size_right, shape_kind, shape_lgk, shape_size, shape_fits}
