@@ -13,7 +13,7 @@ use Rattle.model.specs.Pick.{pick}
 use Rattle.model.specs.Packed.{Bytes}
 use Rattle.model.proofs.table.Sifted.{sifted_none}
 use Rattle.model.specs.Sketch.{bytes_of, stored, table_in, registers, Good}
-use Rattle.model.specs.Calls.{Out, out, start_of, merge_of}
+use Rattle.model.specs.Calls.{Out, start_of, merge_of}
 use Rattle.model.specs.Image.{image_of, image_in, Written, sketch_in, open_of}
 use Rattle.model.specs.History.{start, step, after}
 use Rattle.model.specs.Claims.{Again}

@@ -12,7 +12,7 @@ use borrow.Author.Tests.{eq-eqb, ne_eqb}
 use Rattle.model.specs.Pick.{pick}
 use Rattle.model.specs.Packed.{Bytes}
 use Rattle.model.specs.Sketch.{bytes_of, area_of, Good}
-use Rattle.model.specs.Calls.{Out, out, kept_out, start_of}
+use Rattle.model.specs.Calls.{Out, kept_out, start_of}
 use Rattle.model.specs.Image.{image_in, Written, write_of}
 use Rattle.model.specs.declared.Sketch.{Sketch}
 use Rattle.model.proofs.calls.Ladder.{shape_says}

@@ -11,6 +11,13 @@ use files::Got;
 use image_header::Header;
 use job::Places;
 use model::Sketch;
+use std::io::{Read, Write};
+use std::rt::Files;
+
+// The longest image that is looked at, in bytes, and the largest lg_k that there is memory for.
+const LONGEST: usize = 40000;
+
+const LARGEST: u8 = 12;
 
 // A refusal's number and place, or 0, and the target's record.
 #[derive(Clone, Copy)]
@@ -24,7 +31,7 @@ pub struct Taken {
 fn front_no(image: &[u8]) -> u8
     ensures { result ≡ front_no image.now }
 {
-    if 40000 < image.len() {
+    if LONGEST < image.len() {
         return 17;
     }
     model::number(image_header::check(image))
@@ -38,7 +45,7 @@ fn large_no(kind: u8, lg_k: u8) -> u8
     if no != 0 {
         return no;
     }
-    if 12 < lg_k {
+    if LARGEST < lg_k {
         return 20;
     }
     0
@@ -130,7 +137,8 @@ fn take_got(target: Sketch, tregs: &mut [u8], got: Got, image: &[u8]) -> Taken
 }
 
 // Image i of the job, from 0, through the buffer: no other path may be handed to the reader.
-fn take_file(
+fn take_file<F: Files>(
+    rt: &F,
     target: Sketch,
     tregs: &mut [u8],
     job: &[u8],
@@ -141,7 +149,7 @@ fn take_file(
     requires { path.now ≡ get_or (job_of job.now).ins i [] }
     ensures { TookSome target tregs.old image.new (taken_out result tregs.new) }
 {
-    let got = files::load(path, image);
+    let got = files::load(rt, path, image);
     take_got(target, tregs, got, image)
 }
 
@@ -155,7 +163,14 @@ pub struct Ran {
 }
 
 // The files of the `in=` lines from a place on, in turn.
-fn merge_all(target: Sketch, tregs: &mut [u8], job: &[u8], first: usize, files: usize) -> Ran
+fn merge_all<F: Files>(
+    rt: &F,
+    target: Sketch,
+    tregs: &mut [u8],
+    job: &[u8],
+    first: usize,
+    files: usize,
+) -> Ran
     requires { Lists job.now first files }
     ensures { Merged files target tregs.old (merging result.no result.place result.file result.sketch tregs.new) }
 {
@@ -167,9 +182,10 @@ fn merge_all(target: Sketch, tregs: &mut [u8], job: &[u8], first: usize, files: 
         let n = job::path_in(job, at, b"in=");
         let from = at + 3;
         let end = from + n;
-        let taken = take_file(sketch, tregs, job, done, &job[from..end], &mut image);
+        let taken = take_file(rt, sketch, tregs, job, done, &job[from..end], &mut image);
         sketch = taken.sketch;
-        if taken.no != 0 {
+        let refused = taken.no != 0;
+        if refused {
             return Ran {
                 no: taken.no,
                 place: taken.place,
@@ -189,14 +205,21 @@ fn merge_all(target: Sketch, tregs: &mut [u8], job: &[u8], first: usize, files: 
 }
 
 // No other bytes and no other path may be handed to the writer.
-fn put(job: &[u8], path: &[u8], image: &[u8]) -> bool
+fn put<F: Files>(rt: &F, job: &[u8], path: &[u8], image: &[u8]) -> bool
     requires { Puts job.now path.now image.now }
 {
-    files::replace(path, image)
+    files::replace(rt, path, image)
 }
 
 // The image of all, which always fits into 40 bytes and one for each register, to the path of the `out=` line; and the report.
-fn finish(sketch: Sketch, regs: &[u8], job: &[u8], places: Places, out: &mut [u8; 160]) -> usize
+fn finish<F: Files>(
+    rt: &F,
+    sketch: Sketch,
+    regs: &[u8],
+    job: &[u8],
+    places: Places,
+    out: &mut [u8; 160],
+) -> usize
     requires { Whole job.now sketch regs.now × (places ≡ places_of (job_of job.now)) }
     ensures { Finished places.files places.lg_k regs.now out.new result }
 {
@@ -206,7 +229,7 @@ fn finish(sketch: Sketch, regs: &[u8], job: &[u8], places: Places, out: &mut [u8
     let n = job::path_in(job, places.last, b"out=");
     let from = places.last + 4;
     let end = from + n;
-    let done = put(job, &job[from..end], &image[..len]);
+    let done = put(rt, job, &job[from..end], &image[..len]);
     if !done {
         return report::refused(19, 0, 0, out);
     }
@@ -214,22 +237,28 @@ fn finish(sketch: Sketch, regs: &[u8], job: &[u8], places: Places, out: &mut [u8
 }
 
 // A job that is one, in registers of its size.
-fn run_in(regs: &mut [u8], job: &[u8], places: Places, out: &mut [u8; 160]) -> usize
+fn run_in<F: Files>(
+    rt: &F,
+    regs: &mut [u8],
+    job: &[u8],
+    places: Places,
+    out: &mut [u8; 160],
+) -> usize
     requires { Asked job.now places regs.old }
     ensures { Reported job.now out.new result }
 {
     let made = sketch::start(8, places.lg_k, regs, &mut []);
     let empty = made.sketch;
-    let ran = merge_all(empty, regs, job, places.first, places.files);
+    let ran = merge_all(rt, empty, regs, job, places.first, places.files);
     if ran.no != 0 {
         return report::refused(ran.no, ran.place, ran.file, out);
     }
     let all = ran.sketch;
-    finish(all, regs, job, places, out)
+    finish(rt, all, regs, job, places, out)
 }
 
 // The report of a text as a job.
-pub fn run_job(job: &[u8], out: &mut [u8; 160]) -> usize
+pub fn run_job<F: Files>(rt: &F, job: &[u8], out: &mut [u8; 160]) -> usize
     ensures { Reported job.now out.new result }
 {
     let places = job::parse(job);
@@ -238,27 +267,28 @@ pub fn run_job(job: &[u8], out: &mut [u8; 160]) -> usize
     }
     let mut regs = [0u8; 4096];
     let k = shape::bytes_of(8, places.lg_k);
-    run_in(&mut regs[..k], job, places, out)
+    run_in(rt, &mut regs[..k], job, places, out)
 }
 
 // Nothing but the report of the job may be told.
-fn tell(to: i32, job: &[u8], report: &[u8])
+fn tell<W: Write>(to: &mut W, job: &[u8], report: &[u8])
     requires { Reported job.now report.now (length report.now) }
 {
-    io::write_all(to, report);
+    let _ = to.write_all(report);
 }
 
-// One run: the job comes from one descriptor, and the report goes to the other. A job that fills the buffer is too long to be one.
-pub fn run(from: i32, to: i32) {
+// One run: the job comes from a reader, and the report goes to a writer; where that fails there is nobody to tell. A job that fills the
+// buffer is too long to be one.
+pub fn run<F: Files, R: Read, W: Write>(rt: &F, from: &mut R, to: &mut W) {
     let mut job = [0u8; 4097];
     let mut out = [0u8; 160];
     let got = files::read_all(from, &mut job);
     if got.failed {
         let n = report::refused(19, 0, 0, &mut out);
-        io::write_all(to, &out[..n]);
+        let _ = to.write_all(&out[..n]);
         return;
     }
     let len = got.n;
-    let n = run_job(&job[..len], &mut out);
+    let n = run_job(rt, &job[..len], &mut out);
     tell(to, &job[..len], &out[..n]);
 }

@@ -5,31 +5,32 @@
 ghost use Rattle.std.specs.Prelude.{◌≤◌, ◌<◌, length};
 ghost use Rattle.io.specs.Counts.{IsPrefixLen};
 
-use libc::STDOUT_FILENO;
+use std::io;
+use std::io::Result;
+use std::rt::Files;
 
-fn main() {
-    let mut i = 0;
-    while i < 1000 {
-        let played = play(i);
+fn main(rt: HostRuntime) -> Result<()> {
+    for i in 0..1000 {
+        let played = play(&rt, i)?;
         if !played {
             break;
         }
-        i += 1;
     }
+    Ok(())
 }
 
-fn play(i: usize) -> bool {
+fn play<R: Files + Print>(rt: &R, i: usize) -> Result<bool> {
     let mut name = [0u8; 40];
     let n = name_of(i, b".job", &mut name);
-    let fd = os::open_read(&name[..n]);
-    if fd < 0 {
-        return false;
+    match files::open(rt, &name[..n]) {
+        Ok(mut job) => {
+            line(rt, "job=", i as u64)?;
+            merge_job::run(rt, &mut job, &mut io::writer(rt));
+            show(rt, i)?;
+            Ok(true)
+        }
+        Err(_) => Ok(false),
     }
-    line(b"job=", i as u64);
-    merge_job::run(fd, STDOUT_FILENO);
-    libc::close(fd);
-    show(i);
-    true
 }
 
 fn name_of(i: usize, ending: &[u8], name: &mut [u8; 40]) -> usize
@@ -40,25 +41,22 @@ fn name_of(i: usize, ending: &[u8], name: &mut [u8; 40]) -> usize
     text::put(name, n, ending)
 }
 
-fn line(key: &[u8], n: u64) {
-    io::write_all(STDOUT_FILENO, key);
-    io::print_decimal(STDOUT_FILENO, n);
-    io::write_all(STDOUT_FILENO, b"\n");
+fn line(rt: &impl Print, key: &str, n: u64) -> Result<()> {
+    println!(rt; "{key}{n}")
 }
 
 // The bytes themselves would fill pages; a sum tells them apart.
-fn show(i: usize) {
+fn show<R: Files + Print>(rt: &R, i: usize) -> Result<()> {
     let mut name = [0u8; 40];
     let n = name_of(i, b".out", &mut name);
     let mut bytes = [0u8; 5000];
-    let got = files::load(&name[..n], &mut bytes);
+    let got = files::load(rt, &name[..n], &mut bytes);
     if got.failed {
-        io::write_all(STDOUT_FILENO, b"output=none\n");
-        return;
+        return println!(rt; "output=none");
     }
     let len = got.n;
-    line(b"bytes=", len as u64);
-    line(b"sum=", sum_of(&bytes[..len]));
+    line(rt, "bytes=", len as u64)?;
+    line(rt, "sum=", sum_of(&bytes[..len]))
 }
 
 // The bytes as digits to base 257, modulo the largest prime below 2^32.

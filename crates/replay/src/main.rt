@@ -30,6 +30,8 @@ mod tally;
 ghost use Rattle.std.specs.Prelude.{◌≡◌, length};
 
 use held::Held;
+use std::io::Result;
+use std::rt::Files;
 use tally::Tally;
 
 #[derive(Clone, Copy)]
@@ -95,7 +97,7 @@ fn letter_of(line: &[u8], whole: bool) -> u8 {
 }
 
 // `ended`: the line has its line feed. A last line without one was cut.
-fn step(state: State, line: &[u8], ended: bool) -> State {
+fn step(rt: &impl Print, state: State, line: &[u8], ended: bool) -> Result<State> {
     let held = state.held;
     let aside = state.aside;
     let tally = state.tally;
@@ -106,14 +108,14 @@ fn step(state: State, line: &[u8], ended: bool) -> State {
     let turn = obey(letter, &bytes[..n], held, aside);
     let mine = turn.held;
     let other = turn.aside;
-    State {
-        tally: tally::count(tally, letter, n, turn.right),
+    Ok(State {
+        tally: tally::count(rt, tally, letter, n, turn.right)?,
         held: mine,
         aside: other,
-    }
+    })
 }
 
-fn run(text: &[u8]) -> Tally {
+fn run(rt: &impl Print, text: &[u8]) -> Result<Tally> {
     let mut state = State {
         tally: tally::none(),
         held: held::none(),
@@ -122,10 +124,10 @@ fn run(text: &[u8]) -> Tally {
     let mut at = 0;
     while at < text.len() {
         let end = hex::line_end(text, at);
-        state = step(state, &text[at..end], end < text.len());
+        state = step(rt, state, &text[at..end], end < text.len())?;
         at = end + 1;
     }
-    state.tally
+    Ok(state.tally)
 }
 
 // Room for a list. Its length alone is said, since nobody needs to look at so many zeros.
@@ -136,27 +138,23 @@ fn room() -> [u8; 1048576]
 }
 
 // A file that fills the room was cut, or could have been.
-fn replay(path: &[u8]) {
+fn replay<R: Files + Print>(rt: &R, path: &str) -> Result<()> {
     let mut text = room();
-    io::write_all(1, b"list=");
-    io::write_all(1, path);
-    io::write_all(1, b"\n");
-    let got = files::load(path, &mut text);
+    println!(rt; "list={path}")?;
+    let got = files::load(rt, path.as_bytes(), &mut text);
     let n = got.n;
     if got.failed {
-        io::write_all(1, b"fault=not read\n");
-        return;
+        return println!(rt; "fault=not read");
     }
     if n == 1048576 {
-        io::write_all(1, b"fault=too long\n");
-        return;
+        return println!(rt; "fault=too long");
     }
-    tally::show(b"sum=", sum::of(&text[..n]));
-    tally::report(run(&text[..n]));
+    tally::show(rt, "sum=", sum::of(&text[..n]))?;
+    tally::report(rt, run(rt, &text[..n])?)
 }
 
-fn main() {
-    replay(b"answers");
-    replay(b"places");
-    replay(b"wrong");
+fn main(rt: HostRuntime) -> Result<()> {
+    replay(&rt, "answers")?;
+    replay(&rt, "places")?;
+    replay(&rt, "wrong")
 }

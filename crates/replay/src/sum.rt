@@ -9,8 +9,8 @@ pub fn of(text: &[u8]) -> u64 {
     let mut weighed: u64 = 0;
     let mut i = 0;
     while i < text.len() {
-        plain = std::num::wrapping_add_u64(plain, wide(text[i]));
-        weighed = std::num::wrapping_add_u64(weighed, plain);
+        plain = plain.wrapping_add(wide(text[i]));
+        weighed = weighed.wrapping_add(plain);
         i += 1;
     }
     weighed

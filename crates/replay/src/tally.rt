@@ -1,3 +1,5 @@
+use std::io::Result;
+
 // What was compared, and how much of it differed. A line that differs counts as that alone.
 #[derive(Clone, Copy)]
 pub struct Tally {
@@ -34,7 +36,7 @@ pub fn none() -> Tally {
 
 // Wraps, so that there is nothing to prove: no list is that long.
 fn plus(a: u64, b: usize) -> u64 {
-    std::num::wrapping_add_u64(a, b as u64)
+    a.wrapping_add(b as u64)
 }
 
 fn less(a: usize, b: usize) -> usize {
@@ -44,19 +46,17 @@ fn less(a: usize, b: usize) -> usize {
     a - b
 }
 
-pub fn show(key: &[u8], n: u64) {
-    io::write_all(1, key);
-    io::print_decimal(1, n);
-    io::write_all(1, b"\n");
+pub fn show(rt: &impl Print, key: &str, n: u64) -> Result<()> {
+    println!(rt; "{key}{n}")
 }
 
 // The first few lines that differ are named.
-fn differing(mut t: Tally) -> Tally {
+fn differing(rt: &impl Print, mut t: Tally) -> Result<Tally> {
     t.differ = plus(t.differ, 1);
     if t.differ <= 10 {
-        show(b"differs_at=", t.lines);
+        show(rt, "differs_at=", t.lines)?;
     }
-    t
+    Ok(t)
 }
 
 // A line of n bytes, which is right.
@@ -78,25 +78,25 @@ fn agreeing(mut t: Tally, letter: u8, n: usize) -> Tally {
     t
 }
 
-pub fn count(mut t: Tally, letter: u8, n: usize, right: bool) -> Tally {
+pub fn count(rt: &impl Print, mut t: Tally, letter: u8, n: usize, right: bool) -> Result<Tally> {
     t.lines = plus(t.lines, 1);
     if right {
-        return agreeing(t, letter, n);
+        return Ok(agreeing(t, letter, n));
     }
-    differing(t)
+    differing(rt, t)
 }
 
-pub fn report(t: Tally) {
-    show(b"lines=", t.lines);
-    show(b"histories=", t.histories);
-    show(b"batches=", t.batches);
-    show(b"lists=", t.lists);
-    show(b"opens=", t.opens);
-    show(b"refusals=", t.refusals);
-    show(b"places=", t.places);
-    show(b"merges=", t.merges);
-    show(b"registers=", t.registers);
-    show(b"table_words=", t.words);
-    show(b"image_bytes=", t.bytes);
-    show(b"differ=", t.differ);
+pub fn report(rt: &impl Print, t: Tally) -> Result<()> {
+    show(rt, "lines=", t.lines)?;
+    show(rt, "histories=", t.histories)?;
+    show(rt, "batches=", t.batches)?;
+    show(rt, "lists=", t.lists)?;
+    show(rt, "opens=", t.opens)?;
+    show(rt, "refusals=", t.refusals)?;
+    show(rt, "places=", t.places)?;
+    show(rt, "merges=", t.merges)?;
+    show(rt, "registers=", t.registers)?;
+    show(rt, "table_words=", t.words)?;
+    show(rt, "image_bytes=", t.bytes)?;
+    show(rt, "differ=", t.differ)
 }

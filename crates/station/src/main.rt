@@ -6,6 +6,7 @@ ghost use Rattle.std.specs.Prelude.{◌≡◌};
 ghost use Rattle.station.specs.Tour.{eight, four, joined, refused, totals, flat};
 
 use model::Sketch;
+use std::io::Result;
 
 // A coupon has its value in the upper 6 bits and its slot in the lower 26.
 const THREE_AT_FIVE: u32 = (5 << 26) + 3;
@@ -184,7 +185,7 @@ fn write_out(held: Four) -> Flat
 }
 
 // Each part of main expects and prints what its own calls gave.
-fn show_joined(f: Four)
+fn show_joined(rt: &impl Print, f: Four) -> Result<()>
     requires { f ≡ four }
 {
     let e = fill_eight();
@@ -195,26 +196,25 @@ fn show_joined(f: Four)
     let ours = j.sketch;
     check::expect(j.merged == 0);
     check::expect(ours.num_at_cur_min == 14);
-    io::write_all(1, b"registers at zero ");
-    io::print_decimal(1, ours.num_at_cur_min as u64);
-    show_sums(j);
-    show_refusal(j);
+    let zeros = ours.num_at_cur_min;
+    print!(rt; "registers at zero {zeros}")?;
+    show_sums(rt, j)?;
+    show_refusal(rt, j)
 }
 
-fn show_sums(j: Joined)
+fn show_sums(rt: &impl Print, j: Joined) -> Result<()>
     requires { j ≡ joined }
 {
     let t = add_up(j);
     check::expect(t.answer == 0);
     check::expect(t.low == 0x402c100400000000);
     check::expect(t.high == 0);
-    io::write_all(1, b"\nkxq0 ");
-    io::print_hex(1, t.low, 16);
-    io::write_all(1, b"\nkxq1 ");
-    io::print_hex(1, t.high, 16);
+    let low = t.low;
+    let high = t.high;
+    print!(rt; "\nkxq0 {low:016x}\nkxq1 {high:016x}")
 }
 
-fn show_refusal(j: Joined)
+fn show_refusal(rt: &impl Print, j: Joined) -> Result<()>
     requires { j ≡ joined }
 {
     let r = refuse(j);
@@ -223,37 +223,37 @@ fn show_refusal(j: Joined)
     check::expect(check::same(&left, &wanted));
     check::expect(r.answer == 1);
     check::expect(r.taken == 0);
-    io::write_all(1, b"\nkind 5 is refused by ");
-    io::print_decimal(1, r.answer as u64);
+    let answer = r.answer;
+    print!(rt; "\nkind 5 is refused by {answer}")
 }
 
-fn show_image(f: Four)
+fn show_image(rt: &impl Print, f: Four) -> Result<()>
     requires { f ≡ four }
 {
     let i = write_out(f);
     check::expect(i.answer == 0);
     check::expect(i.len == 52);
-    io::write_all(1, b"\nimage bytes ");
-    io::print_decimal(1, i.len as u64);
+    let len = i.len;
+    print!(rt; "\nimage bytes {len}")
 }
 
 // Any two batches would do: these raise a kind 4 sketch's exceptions, and share a coupon.
-fn show_routes() {
+fn show_routes(rt: &impl Print) -> Result<()> {
     let some = [ZERO_AT_FIFTEEN, THREE_AT_FIVE, 0xffffffff];
     let others = [THREE_AT_FIVE, 0, ZERO_AT_FIFTEEN + 16];
     check::expect(station_routes::same_by_two_routes(&some, &others));
     check::expect(station_routes::same_by_two_routes(&others, &[]));
-    io::write_all(1, b"\nmerged or fed, sent or not: the same image\n");
+    println!(rt; "\nmerged or fed, sent or not: the same image")
 }
 
-fn main() {
+fn main(rt: HostRuntime) -> Result<()> {
     let f = fill_four();
     let theirs = f.sketch;
     check::expect(f.started == 0);
     check::expect(f.fed == 0);
     check::expect(f.taken == 1);
     check::expect(theirs.aux_count == 1);
-    show_joined(f);
-    show_image(f);
-    show_routes();
+    show_joined(&rt, f)?;
+    show_image(&rt, f)?;
+    show_routes(&rt)
 }

@@ -18,7 +18,7 @@ pub loop-n-preserved : goal.loop-n-preserved
 loop-n-preserved c = (search rules, from_less _ _ c.loop-n.invariant.1 (λ h. c.if-path-before-eq47.false))
 
 pub returns-after-loop-n : goal.returns-after-loop-n
-returns-after-loop-n c = (prefix_len_of_le _ _ (omega arith), ((λ h. omega arith), c.loop-n.invariant.1))
+returns-after-loop-n c = record { within = prefix_len_of_le _ _ (omega arith); slash = λ h. omega arith; last = c.loop-n.invariant.1 }
 
 pub returns-then-path-before-eq47 : goal.returns-then-path-before-eq47
-returns-then-path-before-eq47 c = (prefix_len_of_le _ _ (omega arith), ((λ h. c.if-path-before-eq47.true), c.loop-n.invariant.1))
+returns-then-path-before-eq47 c = record { within = prefix_len_of_le _ _ (omega arith); slash = λ h. c.if-path-before-eq47.true; last = c.loop-n.invariant.1 }

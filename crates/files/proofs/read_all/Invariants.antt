@@ -4,7 +4,7 @@ use lib.ListN.{length}
 use Rattle.files.proofs.read_all.Given as goal
 
 abbrev pub invariant-loop-done : goal.invariant-loop-done
-invariant-loop-done l = (l.done ≤ length l.buf) × (length l.buf ≡ length l.initial.buf)
+invariant-loop-done g l = (l.done ≤ length l.buf) × (length l.buf ≡ length l.initial.buf)
 
 abbrev pub decreases-loop-done : goal.decreases-loop-done
-decreases-loop-done l = length l.buf - l.done
+decreases-loop-done g l = length l.buf - l.done

@@ -3,8 +3,8 @@ use mathlib.Core.Path.{◌∙◌}
 use Rattle.merge_job.proofs.Filed.{front_long, front_header}
 use Rattle.merge_job.proofs.front_no.Goals as goal
 
-pub returns-then-image-gt40000 : goal.returns-then-image-gt40000
-returns-then-image-gt40000 c = front_long _ c.if-image-gt40000.true
+pub returns-then-image-gt-LONGEST : goal.returns-then-image-gt-LONGEST
+returns-then-image-gt-LONGEST c = front_long _ c.if-image-gt-LONGEST.true
 
 pub returns : goal.returns
-returns c = front_header _ c.if-image-gt40000.false (c.number.ensures ∙ c.check.ensures)
+returns c = front_header _ c.if-image-gt-LONGEST.false (c.number.ensures ∙ c.check.ensures)

@@ -7,14 +7,14 @@ use Rattle.merge_job.proofs.large_no.Goals as goal
 pub returns-then-no-ne0 : goal.returns-then-no-ne0
 returns-then-no-ne0 c = large_form _ _ (c.number-no.ensures ∙ c.form.ensures) c.if-no-ne0.true
 
-pub returns-then-lg_k-gt12 : goal.returns-then-lg_k-gt12
-returns-then-lg_k-gt12 c =
+pub returns-then-lg_k-gt-LARGEST : goal.returns-then-lg_k-gt-LARGEST
+returns-then-lg_k-gt-LARGEST c =
     let formed : let a = c.args in form_no a.kind a.lg_k ≡ 0 =
-        sym c.form.ensures ∙ sym c.number-no.ensures ∙ c.if-no-ne0.false in
-    large_off _ _ formed c.if-lg_k-gt12.true
+    sym c.form.ensures ∙ sym c.number-no.ensures ∙ c.if-no-ne0.false in
+    large_off _ _ (formed) c.if-lg_k-gt-LARGEST.true
 
 pub returns : goal.returns
 returns c =
     let formed : let a = c.args in form_no a.kind a.lg_k ≡ 0 =
-        sym c.form.ensures ∙ sym c.number-no.ensures ∙ c.if-no-ne0.false in
-    large_right _ _ formed c.if-lg_k-gt12.false
+    sym c.form.ensures ∙ sym c.number-no.ensures ∙ c.if-no-ne0.false in
+    large_right _ _ (formed) c.if-lg_k-gt-LARGEST.false

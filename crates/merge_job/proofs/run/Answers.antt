@@ -3,4 +3,4 @@ use Rattle.merge_job.proofs.Ends.{told}
 use Rattle.merge_job.proofs.run.Goals as goal
 
 pub tell-requires : goal.tell-requires
-tell-requires c = told _ _ _ c.run_job-n.ensures
+tell-requires g c = told _ _ _ c.run_job-n.ensures

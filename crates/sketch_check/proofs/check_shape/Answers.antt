@@ -12,7 +12,7 @@ returns-then-not-known c = shape_kind _ _ _ (sym c.is_kind-known.ensures ∙ c.i
 pub returns-then-not-sized : goal.returns-then-not-sized
 returns-then-not-sized c =
     let known : is_kind c.args.kind ≡ true =
-        sym c.is_kind-known.ensures ∙ c.if-not-known.false in
+    sym c.is_kind-known.ensures ∙ c.if-not-known.false in
     shape_lgk _ _ _ known (lgk_off _ _ c.is_lg_k-sized.ensures c.if-not-sized.true)
 
 pub bytes_of-requires : goal.bytes_of-requires
@@ -21,15 +21,15 @@ bytes_of-requires c = (c.is_lg_k-sized.ensures.0 c.if-not-sized.false).1
 pub returns-then-len-bytes_of : goal.returns-then-len-bytes_of
 returns-then-len-bytes_of c =
     let known : is_kind c.args.kind ≡ true =
-        sym c.is_kind-known.ensures ∙ c.if-not-known.false in
+    sym c.is_kind-known.ensures ∙ c.if-not-known.false in
     let sized : lgk_no c.args.lg_k ≡ 0 =
-        lgk_right _ _ c.is_lg_k-sized.ensures c.if-not-sized.false in
+    lgk_right _ _ c.is_lg_k-sized.ensures c.if-not-sized.false in
     shape_size _ _ _ known sized (size_off _ _ _ (λ z. c.if-len-bytes_of.true (z ∙ sym c.bytes_of.ensures)))
 
 pub returns : goal.returns
 returns c =
     let known : is_kind c.args.kind ≡ true =
-        sym c.is_kind-known.ensures ∙ c.if-not-known.false in
+    sym c.is_kind-known.ensures ∙ c.if-not-known.false in
     let sized : lgk_no c.args.lg_k ≡ 0 =
-        lgk_right _ _ c.is_lg_k-sized.ensures c.if-not-sized.false in
+    lgk_right _ _ c.is_lg_k-sized.ensures c.if-not-sized.false in
     shape_fits _ _ _ known sized (size_right _ _ _ (c.if-len-bytes_of.false ∙ c.bytes_of.ensures))
