@@ -1,4 +1,4 @@
-//! Finds and links the archive: in the folder that LINTELPEAR_LIB names, or where `rt staticlib c_api` writes it at the repository's top.
+//! Finds and links the archive: in the folder that LINTELPEAR_LIB names, or where `rt lib` writes it in crates/c_api.
 
 use std::env;
 use std::path::{Path, PathBuf};
@@ -12,14 +12,14 @@ fn main() {
     let top = PathBuf::from(env::var("CARGO_MANIFEST_DIR").unwrap()).join("../..");
     let given = env::var_os("LINTELPEAR_LIB").filter(|folder| !folder.is_empty());
     // A relative folder is seen from the repository's top.
-    let folder = top.join(given.as_deref().unwrap_or("target/staticlib".as_ref()));
+    let folder = top.join(given.as_deref().unwrap_or("crates/c_api/out".as_ref()));
     let archive = |name: &&str| folder.join(format!("lib{name}.a"));
     match NAMES.iter().find(|name| archive(name).is_file()) {
         Some(name) => link(&folder, name, &archive(name)),
         None => {
             let advice = match given {
                 Some(_) => "that is the folder in LINTELPEAR_LIB",
-                None => "run `rt staticlib c_api` at the top, or name a folder in LINTELPEAR_LIB",
+                None => "run `rt lib` in crates/c_api, or name a folder in LINTELPEAR_LIB",
             };
             let folder = folder.display();
             println!("cargo::error=no liblintelpear.a or libc_api.a in {folder}: {advice}");

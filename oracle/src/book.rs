@@ -50,8 +50,8 @@ fn fed_image(random: &mut Random, i: usize) -> String {
 
 const HEAD: &str = "\
 -- Made by `oracle book`: requests, and what the Rust answers to them; then images with the number and place of document 02, worked out by hand. `oracle/test` makes it again and compares.
-use mathlib.Core.List.{List, [], _∷_}
-use Rattle·model_cases·specs.specs.Play.{Case, history, merged, opened, refused, fed, answered, source, words, bytes}
+use Rattle.std.specs.Prelude.{List, [], ◌∷◌}
+use Rattle.model_cases.specs.Play.{Case, history, merged, opened, refused, fed, answered, source, words, bytes}
 ";
 
 fn case(request: &Request) -> Option<String> {

@@ -22,7 +22,7 @@
 //! ```
 //!
 //! The calls in `lent` are proved code behind a C interface, linked from an archive for x86-64 Linux: `liblintelpear.a` or `libc_api.a` in
-//! the folder that LINTELPEAR_LIB names, else what `rt staticlib c_api` wrote at the repository's top. What this crate adds, the
+//! the folder that LINTELPEAR_LIB names, else what `rt lib` wrote in crates/c_api. What this crate adds, the
 //! declarations of that interface among it, is tested, not proved.
 
 mod area;

@@ -1,8 +1,6 @@
 -- What the functions of this crate, and of the other kinds, ask of a caller.
 use Rattle.std.specs.Prelude.{◌≡◌, List, ℕ, ◌+◌, ◌%◌, ◌^◌, ◌≤◌, length}
 use Rattle.model.specs.Registers.{count_of}
-use Rattle.model.specs.Sketch.{Shaped}
-use Rattle.model.specs.declared.Sketch.{Sketch}
 
 -- a number of registers: the code's mask is then a remainder
 pub record Power (k : ℕ) : Type 0 where

@@ -1,7 +1,6 @@
 -- What making a table of words asks, and what is left where a table is made anew.
-use Rattle.std.specs.Prelude.{◌≡◌, List, ℕ, ◌^◌, ◌≤◌, ◌<◌, length, get_or, take, drop, replicate}
-use Rattle.model.specs.Coupon.{slot}
-use Rattle.model.specs.Table.{Member, Kept, used, keeps, made, laid, table_size, Makable}
+use Rattle.std.specs.Prelude.{◌≡◌, List, ℕ, ◌^◌, ◌≤◌, ◌<◌, length, take, drop, replicate}
+use Rattle.model.specs.Table.{Kept, used, keeps, made, laid, table_size, Makable}
 use Rattle.aux_map.specs.Sizes.{Based}
 
 -- the scratch from top on is a list of words, and the table for them fits into the area, which is empty, and into the scratch

@@ -1,6 +1,5 @@
 -- `array4::feed` meets its contract: `Feeding` says what is left of the batch. Assumes nothing.
 use mathlib.Core.Path.{refl, ◌∙◌}
-use Prim.Native.Nat.{◌-◌}
 use native.Mathlib.Omega.{arith}
 use borrow.Author.Tests.{not-true, not-false}
 use Rattle.array4.proofs.Feeding as feeding

@@ -1,7 +1,7 @@
 -- `array4::free` meets its contract: `Freeing` says what each turn leaves. Assumes nothing.
 use mathlib.Core.Path.{sym, ◌∙◌, subst}
 use mathlib.Core.List.{List}
-use Prim.Native.Nat.{ℕ, ◌+◌, ◌-◌, ◌*◌, ◌<◌}
+use Prim.Native.Nat.{ℕ, ◌+◌, ◌*◌, ◌<◌}
 use native.Mathlib.Omega.{arith}
 use lib.ListN.{length, get_or}
 use Rattle.model.specs.Coupon.{slot}
@@ -24,8 +24,8 @@ loop-i-preserved c =
     let v = c.value.ensures in (
       omega arith,
       elim c.if-value.branch [
-        then-value w ↦ subst f (sym w.regs-is) (freeing.freed_put c.loop-i.invariant.1 _ (sym v ∙ w.if-value.true) (rw w.slot.ensures at w.put_raw.ensures))
-      | else-value w ↦ subst f (sym w.regs-is) (freeing.freed_skip c.loop-i.invariant.1 (λ e. w.if-value.false (v ∙ e)))
+        | then-value w ↦ subst f (sym w.regs-is) (freeing.freed_put c.loop-i.invariant.1 _ (sym v ∙ w.if-value.true) (rw w.slot.ensures at w.put_raw.ensures))
+        | else-value w ↦ subst f (sym w.regs-is) (freeing.freed_skip c.loop-i.invariant.1 (λ e. w.if-value.false (v ∙ e)))
       ],
     )
 

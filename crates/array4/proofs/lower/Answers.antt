@@ -1,5 +1,4 @@
 -- `array4::lower` meets its contract: `Lowering` says what each turn leaves. Assumes nothing.
-use Prim.Native.Nat.{◌-◌}
 use native.Mathlib.Omega.{arith}
 use Rattle.array4.proofs.Lowering as lowering
 use Rattle.array4.proofs.lower.Goals as goal

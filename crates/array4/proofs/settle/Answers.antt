@@ -1,6 +1,5 @@
 -- `array4::settle` meets its contract: `Settling` says what is left of the rises. Assumes nothing.
 use mathlib.Core.Path.{refl, sym, ◌∙◌}
-use Prim.Native.Nat.{◌-◌}
 use native.Mathlib.Omega.{arith}
 use Rattle.array4.proofs.Holding.{holds_held}
 use Rattle.array4.proofs.Settling as settling

@@ -36,13 +36,13 @@ get-requires c =
 pub returns-in-Value : goal.returns-in-Value
 returns-in-Value c =
     let yields : c.get.result ≡ Value (get_or (registers c.args.s c.args.regs.now c.args.aux.now) c.args.slot 0) =
-        c.get.ensures ∙ held.high_get _ _ _ c.requires.four c.requires.good _ _ c.requires.inside c.get_raw-raw.ensures c.if-raw-lt15.false _ c.table_len-size.ensures in
+    c.get.ensures ∙ held.high_get _ _ _ c.requires.four c.requires.good _ _ c.requires.inside c.get_raw-raw.ensures c.if-raw-lt15.false _ c.table_len-size.ensures in
     let told = sym c.in-Value.is ∙ yields in cc
 
 pub returns-in-Missing : goal.returns-in-Missing
 returns-in-Missing c =
     let yields : c.get.result ≡ Value (get_or (registers c.args.s c.args.regs.now c.args.aux.now) c.args.slot 0) =
-        c.get.ensures ∙ held.high_get _ _ _ c.requires.four c.requires.good _ _ c.requires.inside c.get_raw-raw.ensures c.if-raw-lt15.false _ c.table_len-size.ensures in
+    c.get.ensures ∙ held.high_get _ _ _ c.requires.four c.requires.good _ _ c.requires.inside c.get_raw-raw.ensures c.if-raw-lt15.false _ c.table_len-size.ensures in
     let told = sym c.in-Missing.is ∙ yields in
     let z : ◌≡◌ {A = ℕ} 0 1 = cc in
     absurd (omega arith)

@@ -1,5 +1,4 @@
 -- `table_fits` meets its contract: each part that fails denies what the test asks, and together they are the test. Assumes nothing.
-use borrow.Author.Tests.{not-true, not-false}
 use Rattle.model.specs.Table.{base_for}
 use Rattle.aux_table.specs.Check.{Ordered}
 use Rattle.array4_read.proofs.Passing as passing
@@ -20,8 +19,8 @@ returns-then-not-check c =
 pub slice_bounds-words_fit-end : goal.slice_bounds-words_fit-end
 slice_bounds-words_fit-end c =
     let ordered : Ordered (base_for c.args.s.lg_k) c.args.s.aux_count c.args.aux.now =
-        rw (← c.base_for-base.ensures) (c.check.ensures.0 c.if-not-check.false) in
-    passing.part _ _ c.requires _ (ordered) _ c.table_len-size.ensures
+    rw (← c.base_for-base.ensures) (c.check.ensures.0 c.if-not-check.false) in
+    passing.part _ _ c.requires _ ordered _ c.table_len-size.ensures
 
 pub words_fit-requires : goal.words_fit-requires
 words_fit-requires c = passing.few _ _ c.requires
@@ -29,5 +28,5 @@ words_fit-requires c = passing.few _ _ c.requires
 pub returns : goal.returns
 returns c =
     let ordered : Ordered (base_for c.args.s.lg_k) c.args.s.aux_count c.args.aux.now =
-        rw (← c.base_for-base.ensures) (c.check.ensures.0 c.if-not-check.false) in
-    passing.answered _ _ c.requires _ c.if-tokens-s.false (ordered) _ c.table_len-size.ensures _ c.words_fit.ensures
+    rw (← c.base_for-base.ensures) (c.check.ensures.0 c.if-not-check.false) in
+    passing.answered _ _ c.requires _ c.if-tokens-s.false ordered _ c.table_len-size.ensures _ c.words_fit.ensures

@@ -15,12 +15,12 @@ returns-then-regs-slot c = tells_no (λ h. omega (arith, h.inside))
 pub returns-then-raw-ne15 : goal.returns-then-raw-ne15
 returns-then-raw-ne15 c =
     let read : c.get_raw-raw.result ≡ slot_at 4 c.args.regs.now (slot c.args.w) =
-        c.get_raw-raw.ensures ∙ ap (slot_at 4 _) c.slot-slot.ensures in
+    c.get_raw-raw.ensures ∙ ap (slot_at 4 _) c.slot-slot.ensures in
     tells_no (λ h. c.if-raw-ne15.true (read ∙ h.token))
 
 pub returns : goal.returns
 returns c =
     let read : c.get_raw-raw.result ≡ slot_at 4 c.args.regs.now (slot c.args.w) =
-        c.get_raw-raw.ensures ∙ ap (slot_at 4 _) c.slot-slot.ensures in
-    tells_as _ (λ h. record { inside = search rules; token = sym (read) ∙ c.if-raw-ne15.false; high = h; whole = search rules }) (λ h. h.high)
+    c.get_raw-raw.ensures ∙ ap (slot_at 4 _) c.slot-slot.ensures in
+    tells_as _ (λ h. record { inside = search rules; token = sym read ∙ c.if-raw-ne15.false; high = h; whole = search rules }) (λ h. h.high)
     (high_tells _ _ _ c.value.ensures)

@@ -1,9 +1,7 @@
 -- `words_fit` meets its contract: each word passed fits. Assumes nothing.
 use mathlib.Core.Path.{refl}
-use Prim.Native.Nat.{◌-◌}
 use native.Mathlib.Omega.{arith}
 use borrow.Author.Count.{below_more, below_none}
-use borrow.Author.Tests.{not-true, not-false}
 use Rattle.model.proofs.table.FirstLaws.{true_not_false}
 use Rattle.model.proofs.order.Tells.{tells_no}
 use Rattle.array4_read.proofs.words_fit.Goals as goal
@@ -17,11 +15,13 @@ returns-then-not-fits c =
     tells_no (λ h. c.word_fits-fits.ensures.1 c.if-not-fits.true (h.each c.loop-i.i c.loop-i-test.true c.if-w-ne0.true))
 
 pub loop-i-preserved : goal.loop-i-preserved
-loop-i-preserved c =
-    (omega arith, below_more _ c.loop-i.i c.loop-i.invariant.1 (λ n. elim c.if-w-ne0.branch [
-      then-w-ne0+else-not-fits w ↦ w.word_fits-fits.ensures.0 w.if-not-fits.false
+loop-i-preserved c = (
+  omega arith,
+  below_more _ c.loop-i.i c.loop-i.invariant.1 (λ n. elim c.if-w-ne0.branch [
+    | then-w-ne0+else-not-fits w ↦ w.word_fits-fits.ensures.0 w.if-not-fits.false
     | else-w-ne0 w ↦ absurd (n w.if-w-ne0.false)
-    ]))
+  ]),
+)
 
 pub returns : goal.returns
 returns c =

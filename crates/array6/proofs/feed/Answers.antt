@@ -1,6 +1,5 @@
 -- `array6::feed` meets its contract. What is left to do are the coupons from `i` on. Assumes nothing.
 use mathlib.Core.Path.{refl, ap, ap₂, ◌∙◌}
-use Prim.Native.Nat.{◌-◌}
 use native.Mathlib.Omega.{arith}
 use Rattle.model.specs.Registers.{count_of}
 use Rattle.model.specs.Packed.{packed}

@@ -1,6 +1,5 @@
 -- `array8::feed` meets its contract. What is left to do are the coupons from `turn` on. Assumes nothing.
 use mathlib.Core.Path.{refl, ap, ◌∙◌}
-use Prim.Native.Nat.{◌-◌}
 use native.Mathlib.Omega.{arith}
 use Rattle.model.specs.Registers.{count_of}
 use Rattle.model.proofs.registers.Turns.{fed_turn, fed_end}

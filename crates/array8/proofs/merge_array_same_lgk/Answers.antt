@@ -1,6 +1,6 @@
 -- `array8::merge_array_same_lgk` meets its contract. What is left to pour in are the source's registers from `slot` on. Assumes nothing.
 use mathlib.Core.Path.{sym}
-use Prim.Native.Nat.{◌-◌, ◌<◌}
+use Prim.Native.Nat.{◌<◌}
 use native.Mathlib.Nat.{mod-eq_of_lt}
 use native.Mathlib.Omega.{arith}
 use lib.ListN.{length, length-set}

@@ -1,5 +1,4 @@
 -- `array8::merge_array_with_downsample` meets its contract. What is left to pour in are the source's registers from `src_slot` on. Assumes nothing.
-use Prim.Native.Nat.{◌-◌}
 use native.Mathlib.Omega.{arith}
 use lib.ListN.{length-set}
 use Rattle.array8.proofs.Masks.{power_some, index_mask, mask_in}

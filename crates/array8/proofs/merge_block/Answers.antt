@@ -1,6 +1,5 @@
 -- `array8::merge_block` meets its contract. What is left to pour in is the block from `i` on. Assumes nothing.
 use mathlib.Core.Path.{refl}
-use Prim.Native.Nat.{◌-◌}
 use native.Mathlib.Omega.{arith}
 use lib.ListN.{length-set}
 use Rattle.array8.proofs.Masks.{power_some, block_in, block_mask}

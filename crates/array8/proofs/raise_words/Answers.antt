@@ -1,6 +1,5 @@
 -- `array8::raise_words` meets its contract. What is left to do are the words from `at` on. Assumes nothing.
 use mathlib.Core.Path.{refl, sym, ◌∙◌, subst}
-use Prim.Native.Nat.{◌-◌}
 use native.Mathlib.Omega.{arith}
 use Rattle.array8.specs.Asked.{Power}
 use Rattle.model.proofs.registers.Turns.{word_turn, fed_end}

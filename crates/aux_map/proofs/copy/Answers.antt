@@ -1,6 +1,6 @@
 -- `aux_map::copy` meets its contract: the words passed are equal, and two lists that agree at each index are equal. Assumes nothing.
 use mathlib.Core.Path.{◌≡◌, sym, ◌∙◌}
-use Prim.Native.Nat.{ℕ, ◌-◌, ◌<◌}
+use Prim.Native.Nat.{ℕ, ◌<◌}
 use native.Mathlib.Omega.{arith}
 use borrow.Author.Count.{below_more, below_none}
 use lib.ListN.{length, get_or, set, length-set}

@@ -12,13 +12,13 @@ use Rattle.aux_map.proofs.find.Goals as goal
 pub offset_bounds-table-at : goal.offset_bounds-table-at
 offset_bounds-table-at c =
     let inside : c.probe-at.result < length c.args.table.now =
-        subst (λ (p : ℕ). p < length c.args.table.now) (sym c.probe-at.ensures) (place_lt c.args.table.now c.args.slot c.requires) in
+    subst (λ (p : ℕ). p < length c.args.table.now) (sym c.probe-at.ensures) (place_lt c.args.table.now c.args.slot c.requires) in
     omega (arith, inside)
 
 pub bounds-table-at : goal.bounds-table-at
 bounds-table-at c =
     let inside : c.probe-at.result < length c.args.table.now =
-        subst (λ (p : ℕ). p < length c.args.table.now) (sym c.probe-at.ensures) (place_lt c.args.table.now c.args.slot c.requires) in
+    subst (λ (p : ℕ). p < length c.args.table.now) (sym c.probe-at.ensures) (place_lt c.args.table.now c.args.slot c.requires) in
     inside
 
 pub returns-then-table-at-eq0 : goal.returns-then-table-at-eq0

@@ -2,7 +2,7 @@
 -- Assumes nothing.
 use mathlib.Core.Path.{◌≡◌, sym, ◌∙◌, ap, subst}
 use mathlib.Core.List.{List}
-use Prim.Native.Nat.{ℕ, ◌+◌, ◌<◌, ◌≤◌}
+use Prim.Native.Nat.{ℕ, ◌+◌, ◌<◌}
 use native.Mathlib.Omega.{arith}
 use lib.ListN.{length, take, replicate}
 use lib.Seq.{take-length}
@@ -39,8 +39,8 @@ loop-i-preserved c =
     let t = c.args.table.now in
     let h : c.loop-i.i < length t = omega arith in
     elim c.if-w-ne0.branch [
-      then-w-ne0 w ↦ (omega arith, w.into-is ∙ part_put t c.loop-i.into c.loop-i.i h c.loop-i.invariant.1 _ w.if-w-ne0.true (w.probe-at.ensures ∙ ap (place c.loop-i.into) w.slot.ensures))
-    | else-w-ne0 w ↦ (omega arith, w.into-is ∙ part_skip t c.loop-i.into c.loop-i.i h c.loop-i.invariant.1 w.if-w-ne0.false)
+      | then-w-ne0 w ↦ (omega arith, w.into-is ∙ part_put t c.loop-i.into c.loop-i.i h c.loop-i.invariant.1 _ w.if-w-ne0.true (w.probe-at.ensures ∙ ap (place c.loop-i.into) w.slot.ensures))
+      | else-w-ne0 w ↦ (omega arith, w.into-is ∙ part_skip t c.loop-i.into c.loop-i.i h c.loop-i.invariant.1 w.if-w-ne0.false)
     ]
 
 pub shape_of-into : goal.shape_of-into

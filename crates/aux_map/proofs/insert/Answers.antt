@@ -22,20 +22,20 @@ returns-in_default c =
 pub offset_bounds-area-at : goal.offset_bounds-area-at
 offset_bounds-area-at c =
     let answer : finds (take c.args.size c.args.area.now) (slot c.args.w) ≡ Empty c.in-Empty.at =
-        sym (c.find.ensures ∙ ap (finds _) c.slot.ensures) ∙ c.in-Empty.is in
-    omega (arith, inserting.inside _ _ _ _ _ c.requires _ (answer), c.requires.fits)
+    sym (c.find.ensures ∙ ap (finds _) c.slot.ensures) ∙ c.in-Empty.is in
+    omega (arith, inserting.inside _ _ _ _ _ c.requires _ answer, c.requires.fits)
 
 pub bounds-area-at : goal.bounds-area-at
 bounds-area-at c =
     let answer : finds (take c.args.size c.args.area.now) (slot c.args.w) ≡ Empty c.in-Empty.at =
-        sym (c.find.ensures ∙ ap (finds _) c.slot.ensures) ∙ c.in-Empty.is in
-    omega (arith, inserting.inside _ _ _ _ _ c.requires _ (answer), c.requires.fits)
+    sym (c.find.ensures ∙ ap (finds _) c.slot.ensures) ∙ c.in-Empty.is in
+    omega (arith, inserting.inside _ _ _ _ _ c.requires _ answer, c.requires.fits)
 
 pub check_grow-requires : goal.check_grow-requires
 check_grow-requires c =
     let answer : finds (take c.args.size c.args.area.now) (slot c.args.w) ≡ Empty c.in-Empty.at =
-        sym (c.find.ensures ∙ ap (finds _) c.slot.ensures) ∙ c.in-Empty.is in
-    inserting.growable _ _ _ _ _ c.requires _ (answer)
+    sym (c.find.ensures ∙ ap (finds _) c.slot.ensures) ∙ c.in-Empty.is in
+    inserting.growable _ _ _ _ _ c.requires _ answer
 
 pub shape_of-area : goal.shape_of-area
 shape_of-area c = c.check_grow.auto.area ∙ simp length-set
@@ -43,5 +43,5 @@ shape_of-area c = c.check_grow.auto.area ∙ simp length-set
 pub returns : goal.returns
 returns c =
     let answer : finds (take c.args.size c.args.area.now) (slot c.args.w) ≡ Empty c.in-Empty.at =
-        sym (c.find.ensures ∙ ap (finds _) c.slot.ensures) ∙ c.in-Empty.is in
-    inserting.inserted _ _ _ _ _ c.requires _ (answer) _ _ _ c.check_grow.ensures
+    sym (c.find.ensures ∙ ap (finds _) c.slot.ensures) ∙ c.in-Empty.is in
+    inserting.inserted _ _ _ _ _ c.requires _ answer _ _ _ c.check_grow.ensures

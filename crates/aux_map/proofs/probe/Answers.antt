@@ -48,13 +48,13 @@ quotient-requires c = power _ c.args.slot c.requires
 pub overflow_mul-step : goal.overflow_mul-step
 overflow_mul-step c =
     let below : c.quotient.result < 2 ^ 32 =
-        omega (arith, c.quotient.ensures, div-le_self c.args.slot (length c.args.table.now)) in
+    omega (arith, c.quotient.ensures, div-le_self c.args.slot (length c.args.table.now)) in
     omega (arith, below)
 
 pub overflow_add-step : goal.overflow_add-step
 overflow_add-step c =
     let below : c.quotient.result < 2 ^ 32 =
-        omega (arith, c.quotient.ensures, div-le_self c.args.slot (length c.args.table.now)) in
+    omega (arith, c.quotient.ensures, div-le_self c.args.slot (length c.args.table.now)) in
     omega (arith, below)
 
 pub wrap-at-requires : goal.wrap-at-requires
@@ -66,7 +66,7 @@ loop-w-init c = begins _ _ c.requires _ c.wrap-at.ensures
 pub overflow_add-at : goal.overflow_add-at
 overflow_add-at c =
     let below : c.quotient.result < 2 ^ 32 =
-        omega (arith, c.quotient.ensures, div-le_self c.args.slot (length c.args.table.now)) in
+    omega (arith, c.quotient.ensures, div-le_self c.args.slot (length c.args.table.now)) in
     omega (arith, below, c.loop-w.invariant.0)
 
 pub wrap-at-requires-in-loop-w : goal.wrap-at-requires-in-loop-w

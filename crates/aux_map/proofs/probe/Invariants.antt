@@ -1,7 +1,6 @@
 use mathlib.Core.Path.{◌≡◌}
 use Prim.Native.Nat.{◌<◌}
 use lib.ListN.{length}
-use Rattle.model.specs.Coupon.{slot}
 use Rattle.model.specs.Table.{stride, steps_from, place_from, place}
 use Rattle.aux_map.proofs.probe.Given as goal
 

@@ -1,7 +1,7 @@
 -- `aux_map::size_for` meets its contract: the size is the base doubled n times, for an n that the invariant holds, and no smaller doubling
 -- is enough. Assumes nothing.
 use mathlib.Core.Path.{sym, ◌∙◌, ap₂, subst}
-use Prim.Native.Nat.{ℕ, suc, ◌-◌, ◌*◌, ◌^◌, ◌≤◌, ◌<◌, ◌+◌}
+use Prim.Native.Nat.{ℕ, suc, ◌*◌, ◌^◌, ◌≤◌, ◌<◌, ◌+◌}
 use native.Mathlib.Nat.{mul-one, not-suc-le-zero}
 use native.Mathlib.Numerals.{add-one}
 use native.Mathlib.Omega.{arith}

@@ -1,5 +1,4 @@
 -- `aux_table::build` meets its contract: the invariant is `Turn` of `Building`. Assumes nothing.
-use Prim.Native.Nat.{◌-◌}
 use native.Mathlib.Omega.{arith}
 use lib.ListN.{length-drop}
 use Rattle.aux_table.proofs.Building.{turn_none, turn_more, insertable, spared_sum, all}

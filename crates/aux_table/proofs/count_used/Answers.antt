@@ -1,6 +1,6 @@
 -- `aux_table::count_used` meets its contract: n counts the words passed. Assumes nothing.
 use mathlib.Core.Path.{◌≡◌, refl, sym, ◌∙◌, ap}
-use Prim.Native.Nat.{ℕ, ◌+◌, ◌-◌, ◌<◌}
+use Prim.Native.Nat.{ℕ, ◌+◌, ◌<◌}
 use native.Mathlib.Omega.{arith}
 use lib.ListN.{length, take}
 use lib.Seq.{take-length}
@@ -18,8 +18,8 @@ loop-i-preserved c =
     let t = c.args.table.now in
     let h : c.loop-i.i < length t = omega arith in
     elim c.if-table-i-ne0.branch [
-      then-table-i-ne0 w ↦ (omega arith, omega arith, w.n-is ∙ ap (λ (k : ℕ). k + 1) c.loop-i.invariant.2 ∙ sym (used_step t c.loop-i.i h w.if-table-i-ne0.true))
-    | else-table-i-ne0 w ↦ (omega arith, omega arith, w.n-is ∙ c.loop-i.invariant.2 ∙ sym (used_skip t c.loop-i.i h w.if-table-i-ne0.false))
+      | then-table-i-ne0 w ↦ (omega arith, omega arith, w.n-is ∙ ap (λ (k : ℕ). k + 1) c.loop-i.invariant.2 ∙ sym (used_step t c.loop-i.i h w.if-table-i-ne0.true))
+      | else-table-i-ne0 w ↦ (omega arith, omega arith, w.n-is ∙ c.loop-i.invariant.2 ∙ sym (used_skip t c.loop-i.i h w.if-table-i-ne0.false))
     ]
 
 pub returns : goal.returns

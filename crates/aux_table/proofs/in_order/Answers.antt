@@ -1,10 +1,9 @@
 -- `aux_table::in_order` meets its contract: each word passed is where its search ends. Assumes nothing.
 use mathlib.Core.Path.{refl, sym, ap, ◌∙◌}
-use Prim.Native.Nat.{◌-◌, ◌<◌}
+use Prim.Native.Nat.{◌<◌}
 use native.Mathlib.Omega.{arith}
 use borrow.Author.Count.{below_more, below_none}
 use lib.ListN.{length}
-use Rattle.model.specs.Coupon.{slot}
 use Rattle.model.specs.Table.{Reached, place}
 use Rattle.model.proofs.table.FirstLaws.{true_not_false}
 use Rattle.aux_table.proofs.in_order.Goals as goal
@@ -25,11 +24,13 @@ returns-then-at-i c =
 
 pub loop-i-preserved : goal.loop-i-preserved
 loop-i-preserved c =
-    let t = c.args.table.now in
-    (omega arith, below_more _ c.loop-i.i c.loop-i.invariant.1 (λ n. elim c.if-w-ne0.branch [
-      then-w-ne0+else-at-i w ↦ sym (w.probe-at.ensures ∙ ap (place t) w.slot.ensures) ∙ w.if-at-i.false
-    | else-w-ne0 w ↦ absurd (n w.if-w-ne0.false)
-    ]))
+    let t = c.args.table.now in (
+      omega arith,
+      below_more _ c.loop-i.i c.loop-i.invariant.1 (λ n. elim c.if-w-ne0.branch [
+        | then-w-ne0+else-at-i w ↦ sym (w.probe-at.ensures ∙ ap (place t) w.slot.ensures) ∙ w.if-at-i.false
+        | else-w-ne0 w ↦ absurd (n w.if-w-ne0.false)
+      ]),
+    )
 
 pub returns : goal.returns
 unfolding Reached

@@ -1,5 +1,5 @@
 use mathlib.Core.Path.{◌≡◌}
-use Prim.Native.Nat.{◌+◌, ◌-◌, ◌≤◌}
+use Prim.Native.Nat.{◌+◌, ◌≤◌}
 use lib.ListN.{length, drop}
 use Rattle.model.specs.Table.{keeps}
 use Rattle.aux_table.proofs.keep.Given as goal

@@ -23,36 +23,36 @@ slice_bounds-count_words-end c = held.part _ _ _ c.if-s-ne4.false c.requires _ c
 pub count_words-moved-requires : goal.count_words-moved-requires
 count_words-moved-requires c =
     let front : let a = c.args in take c.table_len-size.result a.aux.now ≡ table_in a.s a.aux.now =
-        held.front _ _ _ c.if-s-ne4.false c.requires _ c.table_len-size.ensures in
-    words_room _ _ _ c.requires c.if-s-ne4.false c.count_floors.ensures (front)
+    held.front _ _ _ c.if-s-ne4.false c.requires _ c.table_len-size.ensures in
+    words_room _ _ _ c.requires c.if-s-ne4.false c.count_floors.ensures front
 
 pub returns-then-moved-eq0 : goal.returns-then-moved-eq0
 returns-then-moved-eq0 c =
     let front : let a = c.args in take c.table_len-size.result a.aux.now ≡ table_in a.s a.aux.now =
-        held.front _ _ _ c.if-s-ne4.false c.requires _ c.table_len-size.ensures in
-    none_moved _ _ _ c.requires c.if-s-ne4.false c.count_floors.ensures (front) c.count_words-moved.ensures c.if-moved-eq0.true
+    held.front _ _ _ c.if-s-ne4.false c.requires _ c.table_len-size.ensures in
+    none_moved _ _ _ c.requires c.if-s-ne4.false c.count_floors.ensures front c.count_words-moved.ensures c.if-moved-eq0.true
 
 pub overflow_add-s : goal.overflow_add-s
 overflow_add-s c =
     let front : let a = c.args in take c.table_len-size.result a.aux.now ≡ table_in a.s a.aux.now =
-        held.front _ _ _ c.if-s-ne4.false c.requires _ c.table_len-size.ensures in
-    let top = top_is _ _ _ c.requires c.if-s-ne4.false c.count_floors.ensures (front) c.count_words-moved.ensures c.if-moved-eq0.false in
+    held.front _ _ _ c.if-s-ne4.false c.requires _ c.table_len-size.ensures in
+    let top = top_is _ _ _ c.requires c.if-s-ne4.false c.count_floors.ensures front c.count_words-moved.ensures c.if-moved-eq0.false in
     omega arith
 
 pub count_out-requires : goal.count_out-requires
 count_out-requires c =
     let front : let a = c.args in take c.table_len-size.result a.aux.now ≡ table_in a.s a.aux.now =
-        held.front _ _ _ c.if-s-ne4.false c.requires _ c.table_len-size.ensures in
+    held.front _ _ _ c.if-s-ne4.false c.requires _ c.table_len-size.ensures in
     let four = c.if-s-ne4.false in
     let floored = c.count_floors.ensures in
     let counted = c.count_words-moved.ensures in (
-      top_is _ _ _ c.requires four floored (front) counted c.if-moved-eq0.false,
-      top_many _ _ _ c.requires four floored (front) counted c.if-moved-eq0.false,
+      top_is _ _ _ c.requires four floored front counted c.if-moved-eq0.false,
+      top_many _ _ _ c.requires four floored front counted c.if-moved-eq0.false,
     )
 
 pub returns : goal.returns
 returns c =
     let front : let a = c.args in take c.table_len-size.result a.aux.now ≡ table_in a.s a.aux.now =
-        held.front _ _ _ c.if-s-ne4.false c.requires _ c.table_len-size.ensures in
+    held.front _ _ _ c.if-s-ne4.false c.requires _ c.table_len-size.ensures in
     let counted = c.count_words-moved.ensures in
-    words_moved _ _ _ c.requires c.if-s-ne4.false c.count_floors.ensures (front) counted c.if-moved-eq0.false c.count_out.ensures
+    words_moved _ _ _ c.requires c.if-s-ne4.false c.count_floors.ensures front counted c.if-moved-eq0.false c.count_out.ensures

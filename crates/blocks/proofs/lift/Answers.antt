@@ -1,7 +1,7 @@
 -- `lift` meets its contract: the numbers passed are raised, and the others are as they were. Assumes nothing.
 use mathlib.Core.Path.{refl, sym, ◌∙◌, ap}
 use mathlib.Core.List.{map}
-use Prim.Native.Nat.{◌+◌, ◌-◌}
+use Prim.Native.Nat.{◌+◌}
 use native.Mathlib.Omega.{arith}
 use lib.ListN.{length-set, length-map}
 use lib.Seq.{ext_get_or, get_or-set_other}

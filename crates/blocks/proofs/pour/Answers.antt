@@ -4,7 +4,6 @@ use Rattle.model.specs.declared.Sketch.{Sketch}
 use Rattle.array8.specs.Asked.{Power}
 use Rattle.blocks.specs.Asked.{Long, Pourable}
 use Rattle.blocks.proofs.Levels.{buffer_long}
-use borrow.Author.Rules.{rules}
 -- the length of the blocks
 use Rattle.blocks.proofs.pour.Goals as goal
 

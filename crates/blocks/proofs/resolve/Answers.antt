@@ -1,6 +1,5 @@
 -- `blocks::resolve` meets its contract: the slots passed are filled in. Assumes nothing.
 use mathlib.Core.Path.{refl}
-use Prim.Native.Nat.{◌-◌}
 use native.Mathlib.Omega.{arith}
 use lib.ListN.{length-set}
 use Rattle.model.proofs.packing.Packing.{filled_none, filled_more}

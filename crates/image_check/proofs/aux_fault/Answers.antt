@@ -20,7 +20,7 @@ bytes_of-end-requires c = (formed c.requires.sound.formed).1.1
 pub overflow_add-end : goal.overflow_add-end
 overflow_add-end c =
     let whole : 40 + c.bytes_of-end.result ≤ length c.args.image.now =
-        omega (arith, c.bytes_of-end.ensures, payload_here c.requires.sound) in
+    omega (arith, c.bytes_of-end.ensures, payload_here c.requires.sound) in
     omega (arith, whole)
 
 pub word_count-many-requires : goal.word_count-many-requires
@@ -29,19 +29,19 @@ word_count-many-requires c = lg_arr_here c.requires.sound
 pub slice_bounds-aux_fault-end : goal.slice_bounds-aux_fault-end
 slice_bounds-aux_fault-end c =
     let whole : 40 + c.bytes_of-end.result ≤ length c.args.image.now =
-        omega (arith, c.bytes_of-end.ensures, payload_here c.requires.sound) in
+    omega (arith, c.bytes_of-end.ensures, payload_here c.requires.sound) in
     omega (arith, whole)
 
 pub slice_bounds-aux_fault-count-2 : goal.slice_bounds-aux_fault-count-2
 slice_bounds-aux_fault-count-2 c =
     let whole : 40 + c.bytes_of-end.result ≤ length c.args.image.now =
-        omega (arith, c.bytes_of-end.ensures, payload_here c.requires.sound) in
+    omega (arith, c.bytes_of-end.ensures, payload_here c.requires.sound) in
     omega (arith, whole)
 
 pub slice_bounds-aux_fault-start-2 : goal.slice_bounds-aux_fault-start-2
 slice_bounds-aux_fault-start-2 c =
     let whole : 40 + c.bytes_of-end.result ≤ length c.args.image.now =
-        omega (arith, c.bytes_of-end.ensures, payload_here c.requires.sound) in
+    omega (arith, c.bytes_of-end.ensures, payload_here c.requires.sound) in
     omega (arith, whole)
 
 pub aux_fault-requires : goal.aux_fault-requires

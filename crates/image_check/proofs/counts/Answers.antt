@@ -4,7 +4,6 @@ use mathlib.Core.Bool.{true}
 use Prim.Native.Nat.{ℕ, ◌+◌, ◌*◌, ◌^◌, ◌≤◌, ◌<◌}
 use native.Mathlib.Omega.{arith}
 use lib.ListN.{length}
-use borrow.Author.Tests.{not-true, not-false}
 use Rattle.model.specs.Sketch.{bytes_of}
 use Rattle.model.specs.Check.{counts_fit}
 use Rattle.model.specs.Image.{sketch_in, word_count, lg_arr_fits}
@@ -21,18 +20,18 @@ counts_fit-fit-requires c = rw c.sketch_of.ensures (formed c.requires).1.1
 pub returns-then-not-fit : goal.returns-then-not-fit
 returns-then-not-fit c =
     let fit_is : c.counts_fit-fit.result ≡ counts_fit (sketch_in c.args.image.now) =
-        c.counts_fit-fit.ensures ∙ ap counts_fit (c.sketch_of.ensures ∙ is_in c.requires) in
-    counts_off _ (sym (fit_is) ∙ c.if-not-fit.true)
+    c.counts_fit-fit.ensures ∙ ap counts_fit (c.sketch_of.ensures ∙ is_in c.requires) in
+    counts_off _ (sym fit_is ∙ c.if-not-fit.true)
 
 pub returns-then-not-form : goal.returns-then-not-form
 returns-then-not-form c =
     let fit_is : c.counts_fit-fit.result ≡ counts_fit (sketch_in c.args.image.now) =
-        c.counts_fit-fit.ensures ∙ ap counts_fit (c.sketch_of.ensures ∙ is_in c.requires) in
+    c.counts_fit-fit.ensures ∙ ap counts_fit (c.sketch_of.ensures ∙ is_in c.requires) in
     let form_is : c.lg_arr_fits-form.result ≡ lg_arr_fits c.args.image.now =
-        c.lg_arr_fits-form.ensures ∙ lg_arr_is _ _ c.requires.headed in
+    c.lg_arr_fits-form.ensures ∙ lg_arr_is _ _ c.requires.headed in
     let counts : counts_fit (sketch_in c.args.image.now) ≡ true =
-        sym (fit_is) ∙ c.if-not-fit.false in
-    counts_lg_arr _ (counts) (sym (form_is) ∙ c.if-not-form.true)
+    sym fit_is ∙ c.if-not-fit.false in
+    counts_lg_arr _ counts (sym form_is ∙ c.if-not-form.true)
 
 pub bytes_of-bytes-requires : goal.bytes_of-bytes-requires
 bytes_of-bytes-requires c = (formed c.requires).1.1
@@ -43,9 +42,9 @@ word_count-many-requires c = sym c.lg_arr_fits-form.ensures ∙ c.if-not-form.fa
 pub overflow_add-bytes : goal.overflow_add-bytes
 overflow_add-bytes c =
     let fit_is : c.counts_fit-fit.result ≡ counts_fit (sketch_in c.args.image.now) =
-        c.counts_fit-fit.ensures ∙ ap counts_fit (c.sketch_of.ensures ∙ is_in c.requires) in
+    c.counts_fit-fit.ensures ∙ ap counts_fit (c.sketch_of.ensures ∙ is_in c.requires) in
     let counts : counts_fit (sketch_in c.args.image.now) ≡ true =
-        sym (fit_is) ∙ c.if-not-fit.false in
+    sym fit_is ∙ c.if-not-fit.false in
     let bytes : c.bytes_of-bytes.result ≤ 2 ^ 21 = rw c.bytes_of-bytes.ensures (bytes_few _ _ (formed c.requires).1.1) in
     let words : c.word_count-many.result < 2 ^ 32 = rw c.word_count-many.ensures (words_small c.requires counts (sym c.lg_arr_fits-form.ensures ∙ c.if-not-form.false)) in
     omega arith
@@ -53,9 +52,9 @@ overflow_add-bytes c =
 pub overflow_mul-many : goal.overflow_mul-many
 overflow_mul-many c =
     let fit_is : c.counts_fit-fit.result ≡ counts_fit (sketch_in c.args.image.now) =
-        c.counts_fit-fit.ensures ∙ ap counts_fit (c.sketch_of.ensures ∙ is_in c.requires) in
+    c.counts_fit-fit.ensures ∙ ap counts_fit (c.sketch_of.ensures ∙ is_in c.requires) in
     let counts : counts_fit (sketch_in c.args.image.now) ≡ true =
-        sym (fit_is) ∙ c.if-not-fit.false in
+    sym fit_is ∙ c.if-not-fit.false in
     let bytes : c.bytes_of-bytes.result ≤ 2 ^ 21 = rw c.bytes_of-bytes.ensures (bytes_few _ _ (formed c.requires).1.1) in
     let words : c.word_count-many.result < 2 ^ 32 = rw c.word_count-many.ensures (words_small c.requires counts (sym c.lg_arr_fits-form.ensures ∙ c.if-not-form.false)) in
     omega arith
@@ -63,9 +62,9 @@ overflow_mul-many c =
 pub overflow_add-bytes-2 : goal.overflow_add-bytes-2
 overflow_add-bytes-2 c =
     let fit_is : c.counts_fit-fit.result ≡ counts_fit (sketch_in c.args.image.now) =
-        c.counts_fit-fit.ensures ∙ ap counts_fit (c.sketch_of.ensures ∙ is_in c.requires) in
+    c.counts_fit-fit.ensures ∙ ap counts_fit (c.sketch_of.ensures ∙ is_in c.requires) in
     let counts : counts_fit (sketch_in c.args.image.now) ≡ true =
-        sym (fit_is) ∙ c.if-not-fit.false in
+    sym fit_is ∙ c.if-not-fit.false in
     let bytes : c.bytes_of-bytes.result ≤ 2 ^ 21 = rw c.bytes_of-bytes.ensures (bytes_few _ _ (formed c.requires).1.1) in
     let words : c.word_count-many.result < 2 ^ 32 = rw c.word_count-many.ensures (words_small c.requires counts (sym c.lg_arr_fits-form.ensures ∙ c.if-not-form.false)) in
     omega arith
@@ -73,29 +72,29 @@ overflow_add-bytes-2 c =
 pub returns-then-image-bytes : goal.returns-then-image-bytes
 returns-then-image-bytes c =
     let fit_is : c.counts_fit-fit.result ≡ counts_fit (sketch_in c.args.image.now) =
-        c.counts_fit-fit.ensures ∙ ap counts_fit (c.sketch_of.ensures ∙ is_in c.requires) in
+    c.counts_fit-fit.ensures ∙ ap counts_fit (c.sketch_of.ensures ∙ is_in c.requires) in
     let form_is : c.lg_arr_fits-form.result ≡ lg_arr_fits c.args.image.now =
-        c.lg_arr_fits-form.ensures ∙ lg_arr_is _ _ c.requires.headed in
+    c.lg_arr_fits-form.ensures ∙ lg_arr_is _ _ c.requires.headed in
     let counts : counts_fit (sketch_in c.args.image.now) ≡ true =
-        sym (fit_is) ∙ c.if-not-fit.false in
+    sym fit_is ∙ c.if-not-fit.false in
     let form : lg_arr_fits c.args.image.now ≡ true =
-        sym (form_is) ∙ c.if-not-form.false in
+    sym form_is ∙ c.if-not-form.false in
     let end : let l = c.args.image.now in
     40 + c.bytes_of-bytes.result + 4 * c.word_count-many.result ≡ 40 + bytes_of (sketch_in l).kind (sketch_in l).lg_k + 4 * word_count l =
-        ap₂ (λ (m n : ℕ). 40 + m + 4 * n) c.bytes_of-bytes.ensures c.word_count-many.ensures ∙ end_is c.requires in
-    counts_short _ (counts) (form) (subst (λ (n : ℕ). length c.args.image.now < n) (end) c.if-image-bytes.true)
+    ap₂ (λ (m n : ℕ). 40 + m + 4 * n) c.bytes_of-bytes.ensures c.word_count-many.ensures ∙ end_is c.requires in
+    counts_short _ counts form (subst (λ (n : ℕ). length c.args.image.now < n) end c.if-image-bytes.true)
 
 pub returns : goal.returns
 returns c =
     let fit_is : c.counts_fit-fit.result ≡ counts_fit (sketch_in c.args.image.now) =
-        c.counts_fit-fit.ensures ∙ ap counts_fit (c.sketch_of.ensures ∙ is_in c.requires) in
+    c.counts_fit-fit.ensures ∙ ap counts_fit (c.sketch_of.ensures ∙ is_in c.requires) in
     let form_is : c.lg_arr_fits-form.result ≡ lg_arr_fits c.args.image.now =
-        c.lg_arr_fits-form.ensures ∙ lg_arr_is _ _ c.requires.headed in
+    c.lg_arr_fits-form.ensures ∙ lg_arr_is _ _ c.requires.headed in
     let counts : counts_fit (sketch_in c.args.image.now) ≡ true =
-        sym (fit_is) ∙ c.if-not-fit.false in
+    sym fit_is ∙ c.if-not-fit.false in
     let form : lg_arr_fits c.args.image.now ≡ true =
-        sym (form_is) ∙ c.if-not-form.false in
+    sym form_is ∙ c.if-not-form.false in
     let end : let l = c.args.image.now in
     40 + c.bytes_of-bytes.result + 4 * c.word_count-many.result ≡ 40 + bytes_of (sketch_in l).kind (sketch_in l).lg_k + 4 * word_count l =
-        ap₂ (λ (m n : ℕ). 40 + m + 4 * n) c.bytes_of-bytes.ensures c.word_count-many.ensures ∙ end_is c.requires in
-    counts_right _ (counts) (form) (subst (λ (n : ℕ). n ≤ length c.args.image.now) (end) c.if-image-bytes.false)
+    ap₂ (λ (m n : ℕ). 40 + m + 4 * n) c.bytes_of-bytes.ensures c.word_count-many.ensures ∙ end_is c.requires in
+    counts_right _ counts form (subst (λ (n : ℕ). n ≤ length c.args.image.now) end c.if-image-bytes.false)

@@ -1,6 +1,5 @@
 -- `image_check::form` meets its contract. Assumes nothing.
 use mathlib.Core.Path.{sym, ◌∙◌}
-use borrow.Author.Tests.{not-true, not-false}
 use Rattle.model.proofs.calls.Rungs.{lgk_off, lgk_right, form_kind, form_lgk}
 use Rattle.image_check.proofs.form.Goals as goal
 

@@ -1,6 +1,5 @@
 -- `image_check::memory` meets its contract. Assumes nothing.
 use mathlib.Core.Path.{◌≡◌, sym, ◌∙◌}
-use borrow.Author.Tests.{not-true, not-false}
 use Rattle.model.specs.Check.{size_no}
 use Rattle.model.proofs.calls.Rungs.{size_off, size_right, memory_size, memory_scratch, memory_right}
 use Rattle.image_check.proofs.memory.Goals as goal
@@ -11,11 +10,11 @@ returns-then-regs_len-bytes_of c = memory_size _ _ _ _ _ (size_off _ _ _ (λ e. 
 pub returns-then-not-spare : goal.returns-then-not-spare
 returns-then-not-spare c =
     let sized : let a = c.args in size_no a.kind a.lg_k a.regs_len ≡ 0 =
-        size_right _ _ _ (c.if-regs_len-bytes_of.false ∙ c.bytes_of.ensures) in
-    memory_scratch _ _ _ _ _ (sized) (sym c.scratch_fits-spare.ensures ∙ c.if-not-spare.true)
+    size_right _ _ _ (c.if-regs_len-bytes_of.false ∙ c.bytes_of.ensures) in
+    memory_scratch _ _ _ _ _ sized (sym c.scratch_fits-spare.ensures ∙ c.if-not-spare.true)
 
 pub returns : goal.returns
 returns c =
     let sized : let a = c.args in size_no a.kind a.lg_k a.regs_len ≡ 0 =
-        size_right _ _ _ (c.if-regs_len-bytes_of.false ∙ c.bytes_of.ensures) in
-    memory_right _ _ _ _ _ (sized) (sym c.scratch_fits-spare.ensures ∙ c.if-not-spare.false)
+    size_right _ _ _ (c.if-regs_len-bytes_of.false ∙ c.bytes_of.ensures) in
+    memory_right _ _ _ _ _ sized (sym c.scratch_fits-spare.ensures ∙ c.if-not-spare.false)

@@ -12,11 +12,11 @@ table_size-size-requires c = let p = c.requires in rw c.base_for-base.ensures (s
 pub returns-then-aux_len-size : goal.returns-then-aux_len-size
 returns-then-aux_len-size c =
     let size : let a = c.args in c.table_size-size.result ≡ table_size (base_for a.lg_k) a.aux_count =
-        c.table_size-size.ensures ∙ ap (λ (n : ℕ). table_size n c.args.aux_count) c.base_for-base.ensures in
-    room_short _ _ _ (subst (λ (n : ℕ). c.args.aux_len < n) (size) c.if-aux_len-size.true)
+    c.table_size-size.ensures ∙ ap (λ (n : ℕ). table_size n c.args.aux_count) c.base_for-base.ensures in
+    room_short _ _ _ (subst (λ (n : ℕ). c.args.aux_len < n) size c.if-aux_len-size.true)
 
 pub returns : goal.returns
 returns c =
     let size : let a = c.args in c.table_size-size.result ≡ table_size (base_for a.lg_k) a.aux_count =
-        c.table_size-size.ensures ∙ ap (λ (n : ℕ). table_size n c.args.aux_count) c.base_for-base.ensures in
-    room_right _ _ _ (subst (λ (n : ℕ). n ≤ c.args.aux_len) (size) c.if-aux_len-size.false)
+    c.table_size-size.ensures ∙ ap (λ (n : ℕ). table_size n c.args.aux_count) c.base_for-base.ensures in
+    room_right _ _ _ (subst (λ (n : ℕ). n ≤ c.args.aux_len) size c.if-aux_len-size.false)

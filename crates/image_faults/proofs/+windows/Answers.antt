@@ -1,12 +1,11 @@
 -- `image_faults::windows` meets its contract, and calls itself for one window less. Assumes nothing.
-use mathlib.Core.Path.{sym, subst}
-use mathlib.Core.Bool.{true}
+use mathlib.Core.Path.{subst}
 use Prim.Native.Nat.{ℕ, ◌-◌, ◌*◌, ◌^◌, ◌<◌}
 use native.Mathlib.Omega.{arith}
 use lib.Pow.{pow_mono}
 use Rattle.model.specs.Packed.{slot_at}
 use Rattle.image_faults.specs.Windows.{Sweeping}
-use Rattle.image_faults.proofs.Sweeping.{sweep_none, sweep_on, first_window}
+use Rattle.image_faults.proofs.Sweeping.{sweep_on, first_window}
 use Rattle.image_faults.proofs.+windows.Goals as goal
 
 -- a window that is all of them is the one before 1

@@ -1,6 +1,5 @@
 -- `image_faults::pass` meets its contract: `Passing` holds before each word. Assumes nothing.
 use mathlib.Core.Path.{refl}
-use Prim.Native.Nat.{◌-◌}
 use native.Mathlib.Omega.{arith}
 use borrow.Author.Rules.{rules}
 use Rattle.image_faults.proofs.Passing.{pass_none, pass_adds, pass_on, pass_stops, pass_ends}

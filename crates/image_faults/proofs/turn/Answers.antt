@@ -17,52 +17,52 @@ returns-then-none c = turn_empty _ _ _ _ _ (sym c.is_empty-none.ensures ∙ c.if
 pub returns-then-slot-b : goal.returns-then-slot-b
 returns-then-slot-b c =
     let some : is_empty c.args.w ≡ false =
-        sym c.is_empty-none.ensures ∙ c.if-none.false in
-    turn_other _ _ _ _ _ (some) _ c.home-slot.ensures c.if-slot-b.true
+    sym c.is_empty-none.ensures ∙ c.if-none.false in
+    turn_other _ _ _ _ _ some _ c.home-slot.ensures c.if-slot-b.true
 
 pub marked-before-requires : goal.marked-before-requires
 marked-before-requires c =
     let inside : c.home-slot.result < 2 ^ c.args.h.lg_k =
-        let a = c.args in omega (arith, c.home-slot.ensures, home_in a.h.lg_k a.w) in
+    let a = c.args in omega (arith, c.home-slot.ensures, home_in a.h.lg_k a.w) in
     let room : c.home-slot.result % 524288 < 8 * length c.args.marks.now =
-        omega (arith, inside, c.requires.2) in
+    omega (arith, inside, c.requires.2) in
     room
 
 pub returns-then-before : goal.returns-then-before
 returns-then-before c =
     let some : is_empty c.args.w ≡ false =
-        sym c.is_empty-none.ensures ∙ c.if-none.false in
-    turn_twice _ _ _ _ _ (some) _ c.home-slot.ensures c.if-slot-b.false (sym c.marked-before.ensures ∙ c.if-before.true) _
+    sym c.is_empty-none.ensures ∙ c.if-none.false in
+    turn_twice _ _ _ _ _ some _ c.home-slot.ensures c.if-slot-b.false (sym c.marked-before.ensures ∙ c.if-before.true) _
 
 pub returns-then-low : goal.returns-then-low
 returns-then-low c =
     let some : is_empty c.args.w ≡ false =
-        sym c.is_empty-none.ensures ∙ c.if-none.false in
+    sym c.is_empty-none.ensures ∙ c.if-none.false in
     let new : bit c.args.marks.now (c.home-slot.result % 524288) ≡ false =
-        sym c.marked-before.ensures ∙ c.if-before.false in
-    turn_low _ _ _ _ _ (some) _ c.home-slot.ensures c.if-slot-b.false (new) (omega (arith, ltb-true, c.if-low.true, c.value.ensures)) _
+    sym c.marked-before.ensures ∙ c.if-before.false in
+    turn_low _ _ _ _ _ some _ c.home-slot.ensures c.if-slot-b.false new (omega (arith, ltb-true, c.if-low.true, c.value.ensures)) _
 
 pub mark-requires : goal.mark-requires
 mark-requires c =
     let inside : c.home-slot.result < 2 ^ c.args.h.lg_k =
-        let a = c.args in omega (arith, c.home-slot.ensures, home_in a.h.lg_k a.w) in
+    let a = c.args in omega (arith, c.home-slot.ensures, home_in a.h.lg_k a.w) in
     let room : c.home-slot.result % 524288 < 8 * length c.args.marks.now =
-        omega (arith, inside, c.requires.2) in
+    omega (arith, inside, c.requires.2) in
     let new : bit c.args.marks.now (c.home-slot.result % 524288) ≡ false =
-        sym c.marked-before.ensures ∙ c.if-before.false in
+    sym c.marked-before.ensures ∙ c.if-before.false in
     (room, new)
 
 pub get_raw-even-requires : goal.get_raw-even-requires
 get_raw-even-requires c =
     let inside : c.home-slot.result < 2 ^ c.args.h.lg_k =
-        let a = c.args in omega (arith, c.home-slot.ensures, home_in a.h.lg_k a.w) in
+    let a = c.args in omega (arith, c.home-slot.ensures, home_in a.h.lg_k a.w) in
     omega (arith, inside, c.requires.1)
 
 pub returns : goal.returns
 returns c =
     let some : is_empty c.args.w ≡ false =
-        sym c.is_empty-none.ensures ∙ c.if-none.false in
+    sym c.is_empty-none.ensures ∙ c.if-none.false in
     let new : bit c.args.marks.now (c.home-slot.result % 524288) ≡ false =
-        sym c.marked-before.ensures ∙ c.if-before.false in
-    turn_new _ _ _ _ _ (some) _ c.home-slot.ensures c.if-slot-b.false (new) (omega (arith, ltb-false, c.if-low.false, c.value.ensures)) _ c.mark.ensures
+    sym c.marked-before.ensures ∙ c.if-before.false in
+    turn_new _ _ _ _ _ some _ c.home-slot.ensures c.if-slot-b.false new (omega (arith, ltb-false, c.if-low.false, c.value.ensures)) _ c.mark.ensures
     (λ t. sym c.get_raw-even.ensures ∙ eqb-true _ _ t)

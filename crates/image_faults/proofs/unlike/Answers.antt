@@ -1,7 +1,7 @@
 -- `image_faults::unlike` meets its contract. Assumes nothing.
 use mathlib.Core.Path.{◌≡◌, refl, sym, ◌∙◌, ap₂}
 use mathlib.Core.Bool.{Bool, true, false, not, beq}
-use Prim.Native.Nat.{ℕ, ◌-◌}
+use Prim.Native.Nat.{ℕ}
 use native.Mathlib.Omega.{arith}
 use lib.Dec.{eqb}
 use borrow.Author.Count.{below_more}

@@ -3,7 +3,6 @@ use mathlib.Core.Path.{◌∙◌, ap}
 use Prim.Native.Nat.{◌<◌, min}
 use native.Mathlib.Omega.{arith}
 use lib.Pow.{pow_mono}
-use borrow.Author.Tests.{not-true}
 use Rattle.image_faults.proofs.Leasts.{view_blind, view_looks}
 use Rattle.image_faults.proofs.window_in.Goals as goal
 

@@ -30,7 +30,7 @@ pub slice_bounds-feed-end : goal.slice_bounds-feed-end
 slice_bounds-feed-end c =
     let fits : c.args.n ≤ length (c.unpack.new.out ++ drop c.args.n zeros) =
         front_fits c.args.n c.args.words.now zeros c.unpack.new.out c.requires.1 c.unpack.ensures in
-    sym (length-take-le _ _ (fits))
+    sym (length-take-le _ _ fits)
 
 pub returns : goal.returns
 returns c =

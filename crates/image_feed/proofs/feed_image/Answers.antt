@@ -25,7 +25,7 @@ returns-then-number-ne0-2 c =
     let good : let a = c.args in
     check_no (scratch_fits a.sketch.kind (length a.aux.now) (length a.scratch.now)) a.sketch a.regs.now a.aux.now ≡ 0 =
         sym c.check-mine.ensures ∙ sym c.number.ensures ∙ c.if-number-ne0.false in
-    by_preamble _ _ _ _ _ (good) _ _ c.refused-then-number-ne0-2.ensures c.preamble-begun.ensures (λ e. c.if-number-ne0-2.true (c.number-2.ensures ∙ e))
+    by_preamble _ _ _ _ _ good _ _ c.refused-then-number-ne0-2.ensures c.preamble-begun.ensures (λ e. c.if-number-ne0-2.true (c.number-2.ensures ∙ e))
 
 pub coupons_in-c-requires : goal.coupons_in-c-requires
 coupons_in-c-requires c =
@@ -48,7 +48,7 @@ returns-then-number-ne0-3 c =
         sym c.check-mine.ensures ∙ sym c.number.ensures ∙ c.if-number-ne0.false in
     let begun : preamble_no c.args.image.now ≡ 0 =
         ap (λ (x : Said). x.no) (sym c.preamble-begun.ensures) ∙ sym c.number-2.ensures ∙ c.if-number-ne0-2.false in
-    by_coupons _ _ _ _ _ (good) (begun) _ _ c.refused-then-number-ne0-3.ensures c.check-theirs.ensures (λ e. c.if-number-ne0-3.true (c.number-3.ensures ∙ e))
+    by_coupons _ _ _ _ _ good begun _ _ c.refused-then-number-ne0-3.ensures c.check-theirs.ensures (λ e. c.if-number-ne0-3.true (c.number-3.ensures ∙ e))
 
 pub slice_bounds-feed_words-count : goal.slice_bounds-feed_words-count
 slice_bounds-feed_words-count c =
@@ -56,7 +56,7 @@ slice_bounds-feed_words-count c =
         ap (λ (x : Said). x.no) (sym c.check-theirs.ensures) ∙ sym c.number-3.ensures ∙ c.if-number-ne0-3.false in
     let whole : let k = c.coupons_in-c.result in k.words + 4 * k.count ≤ length c.args.image.now =
         let l = c.args.image.now in
-    subst (λ (k : Coupons). k.words + 4 * k.count ≤ length l) (sym c.coupons_in-c.ensures) (coupons_long l _ (right)) in
+    subst (λ (k : Coupons). k.words + 4 * k.count ≤ length l) (sym c.coupons_in-c.ensures) (coupons_long l _ right) in
     omega (arith, whole)
 
 pub slice_bounds-feed_words-start : goal.slice_bounds-feed_words-start
@@ -65,7 +65,7 @@ slice_bounds-feed_words-start c =
         ap (λ (x : Said). x.no) (sym c.check-theirs.ensures) ∙ sym c.number-3.ensures ∙ c.if-number-ne0-3.false in
     let whole : let k = c.coupons_in-c.result in k.words + 4 * k.count ≤ length c.args.image.now =
         let l = c.args.image.now in
-    subst (λ (k : Coupons). k.words + 4 * k.count ≤ length l) (sym c.coupons_in-c.ensures) (coupons_long l _ (right)) in
+    subst (λ (k : Coupons). k.words + 4 * k.count ≤ length l) (sym c.coupons_in-c.ensures) (coupons_long l _ right) in
     omega (arith, whole)
 
 pub feed_words-requires : goal.feed_words-requires
@@ -77,10 +77,10 @@ feed_words-requires c =
         ap (λ (x : Said). x.no) (sym c.check-theirs.ensures) ∙ sym c.number-3.ensures ∙ c.if-number-ne0-3.false in
     let whole : let k = c.coupons_in-c.result in k.words + 4 * k.count ≤ length c.args.image.now =
         let l = c.args.image.now in
-    subst (λ (k : Coupons). k.words + 4 * k.count ≤ length l) (sym c.coupons_in-c.ensures) (coupons_long l _ (right)) in
+    subst (λ (k : Coupons). k.words + 4 * k.count ≤ length l) (sym c.coupons_in-c.ensures) (coupons_long l _ right) in
     let l = c.args.image.now in
     let part = ap length (from_on c.coupons_in-c.result.words l) ∙ length-drop c.coupons_in-c.result.words l in
-    (ready _ _ _ _ (good) (λ i. (c.slice_known-1.given i).fits), omega (arith, whole))
+    (ready _ _ _ _ good (λ i. (c.slice_known-1.given i).fits), omega (arith, whole))
 
 pub returns : goal.returns
 returns c =
@@ -96,7 +96,7 @@ returns c =
     let a = c.args in
     let l = a.image.now in
     let k = c.coupons_in-c.result in
-    fed_as _ _ _ _ l (good) (begun) _ (right)
+    fed_as _ _ _ _ l good begun _ right
     (c.feed_words.ensures
     ∙ ap (λ (x : List ℕ). batch_of a.sketch a.regs.now a.aux.now (unpacked 32 k.count x)) (from_on k.words l)
-    ∙ ap (λ (k : Coupons). batch_of a.sketch a.regs.now a.aux.now (unpacked 32 k.count (drop k.words l))) (read))
+    ∙ ap (λ (k : Coupons). batch_of a.sketch a.regs.now a.aux.now (unpacked 32 k.count (drop k.words l))) read)

@@ -79,10 +79,10 @@ overflow_add-result c =
     c.feed_block-f.ensures
     ∙ ap (batch_of c.loop-i.fed c.loop-i.regs c.loop-i.aux)
     (ap (unpacked 32 c.lesser-n.result) (from_on (4 * c.loop-i.i) words)
-    ∙ feeding.block_words c.loop-i.i c.lesser-n.result c.args.many words (λ i. (c.type_inv.words i).fits) c.requires.1 (step).2) in
+    ∙ feeding.block_words c.loop-i.i c.lesser-n.result c.args.many words (λ i. (c.type_inv.words i).fits) c.requires.1 step.2) in
     let within : let a = c.args in c.loop-i.i + c.lesser-n.result ≤ length (unpacked 32 a.many a.words.now) =
-        let a = c.args in rw (length_unpacked 32 a.many a.words.now) (step).2 in
-    omega (arith, step, feeding.feeding_few c.loop-i.invariant.3 c.lesser-n.result (within) _ (block))
+        let a = c.args in rw (length_unpacked 32 a.many a.words.now) step.2 in
+    omega (arith, step, feeding.feeding_few c.loop-i.invariant.3 c.lesser-n.result within _ block)
 
 pub shape_of-regs-then-number-ne0 : goal.shape_of-regs-then-number-ne0
 shape_of-regs-then-number-ne0 c =
@@ -111,10 +111,10 @@ returns-then-number-ne0 c =
     c.feed_block-f.ensures
     ∙ ap (batch_of c.loop-i.fed c.loop-i.regs c.loop-i.aux)
     (ap (unpacked 32 c.lesser-n.result) (from_on (4 * c.loop-i.i) words)
-    ∙ feeding.block_words c.loop-i.i c.lesser-n.result c.args.many words (λ i. (c.type_inv.words i).fits) c.requires.1 (step).2) in
+    ∙ feeding.block_words c.loop-i.i c.lesser-n.result c.args.many words (λ i. (c.type_inv.words i).fits) c.requires.1 step.2) in
     let within : let a = c.args in c.loop-i.i + c.lesser-n.result ≤ length (unpacked 32 a.many a.words.now) =
-        let a = c.args in rw (length_unpacked 32 a.many a.words.now) (step).2 in
-    feeding.feeding_stop c.loop-i.invariant.3 c.lesser-n.result (within) _ (block) (λ z. c.if-number-ne0.true (c.number.ensures ∙ z))
+        let a = c.args in rw (length_unpacked 32 a.many a.words.now) step.2 in
+    feeding.feeding_stop c.loop-i.invariant.3 c.lesser-n.result within _ block (λ z. c.if-number-ne0.true (c.number.ensures ∙ z))
 
 pub overflow_add-i : goal.overflow_add-i
 overflow_add-i c =
@@ -151,14 +151,14 @@ loop-i-preserved c =
     c.feed_block-f.ensures
     ∙ ap (batch_of c.loop-i.fed c.loop-i.regs c.loop-i.aux)
     (ap (unpacked 32 c.lesser-n.result) (from_on (4 * c.loop-i.i) words)
-    ∙ feeding.block_words c.loop-i.i c.lesser-n.result c.args.many words (λ i. (c.type_inv.words i).fits) c.requires.1 (step).2) in
+    ∙ feeding.block_words c.loop-i.i c.lesser-n.result c.args.many words (λ i. (c.type_inv.words i).fits) c.requires.1 step.2) in
     let within : let a = c.args in c.loop-i.i + c.lesser-n.result ≤ length (unpacked 32 a.many a.words.now) =
-        let a = c.args in rw (length_unpacked 32 a.many a.words.now) (step).2 in
+        let a = c.args in rw (length_unpacked 32 a.many a.words.now) step.2 in
     (
   c.feed_block-f.auto.regs ∙ c.loop-i.invariant.0,
   c.feed_block-f.auto.aux ∙ c.loop-i.invariant.1,
   c.feed_block-f.auto.scratch ∙ c.loop-i.invariant.2,
-  feeding.feeding_more c.loop-i.invariant.3 c.lesser-n.result (within) _ (block) (sym c.number.ensures ∙ c.if-number-ne0.false),
+  feeding.feeding_more c.loop-i.invariant.3 c.lesser-n.result within _ block (sym c.number.ensures ∙ c.if-number-ne0.false),
 
 )
 

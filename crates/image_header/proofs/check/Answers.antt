@@ -1,5 +1,4 @@
 -- `image_header::check` meets its contract. Assumes nothing.
-use borrow.Author.Tests.{not-true, not-false}
 use Rattle.model.proofs.calls.Rungs.{header_short, header_off, header_right}
 use Rattle.image_header.proofs.Headers.{begins_tells}
 use Rattle.image_header.proofs.check.Goals as goal

@@ -1,6 +1,5 @@
 -- `image_header::starts` meets its contract: the bytes before i are the same. Assumes nothing.
 use mathlib.Core.Path.{refl}
-use Prim.Native.Nat.{◌-◌}
 use native.Mathlib.Omega.{arith}
 use borrow.Author.Count.{below_more}
 use Rattle.model.proofs.table.FirstLaws.{true_not_false}

@@ -18,11 +18,11 @@ returns-then-h-eq0 c = rw (c.if-h.false, eq-eqb _ 0 c.if-h-eq0.true)
 pub overflow_shl-result : goal.overflow_shl-result
 overflow_shl-result c =
     let most : c.args.h.lg_arr ≤ 22 =
-        leb-true _ 22 (rw (c.if-h.false, ne_eqb _ 0 c.if-h-eq0.false) at c.requires) in
+    leb-true _ 22 (rw (c.if-h.false, ne_eqb _ 0 c.if-h-eq0.false) at c.requires) in
     omega (arith, most)
 
 pub returns : goal.returns
 returns c =
     let most : c.args.h.lg_arr ≤ 22 =
-        leb-true _ 22 (rw (c.if-h.false, ne_eqb _ 0 c.if-h-eq0.false) at c.requires) in
-    size _ (most) ∙ rw (c.if-h.false, ne_eqb _ 0 c.if-h-eq0.false)
+    leb-true _ 22 (rw (c.if-h.false, ne_eqb _ 0 c.if-h-eq0.false) at c.requires) in
+    size _ most ∙ rw (c.if-h.false, ne_eqb _ 0 c.if-h-eq0.false)

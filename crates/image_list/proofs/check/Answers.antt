@@ -22,7 +22,7 @@ overflow_mul-many c =
         c.requires.is in
     let few : (c.args.c.count < 4294967296) × (c.args.c.words ≤ length c.args.image.now) =
         let l = c.args.image.now in
-    (subst (λ (k : Coupons). k.count < 4294967296) (sym (is)) (count_small l), subst (λ (k : Coupons). k.words ≤ length l) (sym (is)) (preamble_long l c.requires.passed).1) in
+    (subst (λ (k : Coupons). k.count < 4294967296) (sym is) (count_small l), subst (λ (k : Coupons). k.words ≤ length l) (sym is) (preamble_long l c.requires.passed).1) in
     omega (arith, few)
 
 pub overflow_add-from : goal.overflow_add-from
@@ -31,7 +31,7 @@ overflow_add-from c =
         c.requires.is in
     let few : (c.args.c.count < 4294967296) × (c.args.c.words ≤ length c.args.image.now) =
         let l = c.args.image.now in
-    (subst (λ (k : Coupons). k.count < 4294967296) (sym (is)) (count_small l), subst (λ (k : Coupons). k.words ≤ length l) (sym (is)) (preamble_long l c.requires.passed).1) in
+    (subst (λ (k : Coupons). k.count < 4294967296) (sym is) (count_small l), subst (λ (k : Coupons). k.words ≤ length l) (sym is) (preamble_long l c.requires.passed).1) in
     omega (arith, few)
 
 pub returns-then-image-from : goal.returns-then-image-from
@@ -39,7 +39,7 @@ returns-then-image-from c =
     let is : c.args.c ≡ coupons_at c.args.image.now =
         c.requires.is in
     let l = c.args.image.now in
-    short_words l _ (subst (λ (k : Coupons). length l < k.words + 4 * k.count) (is) c.if-image-from.true)
+    short_words l _ (subst (λ (k : Coupons). length l < k.words + 4 * k.count) is c.if-image-from.true)
 
 pub overflow_cast-result : goal.overflow_cast-result
 overflow_cast-result c =
@@ -47,7 +47,7 @@ overflow_cast-result c =
         c.requires.is in
     let few : (c.args.c.count < 4294967296) × (c.args.c.words ≤ length c.args.image.now) =
         let l = c.args.image.now in
-    (subst (λ (k : Coupons). k.count < 4294967296) (sym (is)) (count_small l), subst (λ (k : Coupons). k.words ≤ length l) (sym (is)) (preamble_long l c.requires.passed).1) in
+    (subst (λ (k : Coupons). k.count < 4294967296) (sym is) (count_small l), subst (λ (k : Coupons). k.words ≤ length l) (sym is) (preamble_long l c.requires.passed).1) in
     let k = c.args.c in
     let h : c.first_empty-empty.result ≤ k.count = rw c.first_empty-empty.ensures (first_le _ k.count) in
     omega (arith, few)
@@ -58,15 +58,15 @@ returns-then-empty-many c =
     let is : c.args.c ≡ coupons_at c.args.image.now =
         c.requires.is in
     let whole : let l = c.args.image.now in (layout_in l).words + 4 * coupon_count l ≤ length l =
-        let l = c.args.image.now in subst (λ (k : Coupons). k.words + 4 * k.count ≤ length l) (is) c.if-image-from.false in
+        let l = c.args.image.now in subst (λ (k : Coupons). k.words + 4 * k.count ≤ length l) is c.if-image-from.false in
     let empty_is : c.first_empty-empty.result ≡ empty_in c.args.image.now =
         let k = c.args.c in
     let l = c.args.image.now in
     c.first_empty-empty.ensures
     ∙ ap (λ (x : List ℕ). first (λ i. eqb (get_or (unpacked 32 k.count x) i 0) 0) k.count) (from_on k.words l)
-    ∙ ap (λ (k : Coupons). first (λ i. eqb (get_or (unpacked 32 k.count (drop k.words l)) i 0) 0) k.count) (is) in
+    ∙ ap (λ (k : Coupons). first (λ i. eqb (get_or (unpacked 32 k.count (drop k.words l)) i 0) 0) k.count) is in
     let l = c.args.image.now in
-    rw (empty_is) (empty_word l _ (whole) (λ e. c.if-empty-many.true (empty_is ∙ e ∙ ap (λ (k : Coupons). k.count) (sym (is)))))
+    rw empty_is (empty_word l _ whole (λ e. c.if-empty-many.true (empty_is ∙ e ∙ ap (λ (k : Coupons). k.count) (sym is))))
 
 pub bounds-image-3 : goal.bounds-image-3
 bounds-image-3 c = omega (arith, (preamble_long _ c.requires.passed).0)
@@ -77,16 +77,16 @@ returns-then-image-lg_k c =
     let is : c.args.c ≡ coupons_at c.args.image.now =
         c.requires.is in
     let whole : let l = c.args.image.now in (layout_in l).words + 4 * coupon_count l ≤ length l =
-        let l = c.args.image.now in subst (λ (k : Coupons). k.words + 4 * k.count ≤ length l) (is) c.if-image-from.false in
+        let l = c.args.image.now in subst (λ (k : Coupons). k.words + 4 * k.count ≤ length l) is c.if-image-from.false in
     let empty_is : c.first_empty-empty.result ≡ empty_in c.args.image.now =
         let k = c.args.c in
     let l = c.args.image.now in
     c.first_empty-empty.ensures
     ∙ ap (λ (x : List ℕ). first (λ i. eqb (get_or (unpacked 32 k.count x) i 0) 0) k.count) (from_on k.words l)
-    ∙ ap (λ (k : Coupons). first (λ i. eqb (get_or (unpacked 32 k.count (drop k.words l)) i 0) 0) k.count) (is) in
+    ∙ ap (λ (k : Coupons). first (λ i. eqb (get_or (unpacked 32 k.count (drop k.words l)) i 0) 0) k.count) is in
     let none : let l = c.args.image.now in empty_in l ≡ coupon_count l =
-        sym (empty_is) ∙ c.if-empty-many.false ∙ ap (λ (k : Coupons). k.count) (is) in
-    too_fine _ _ (whole) (none) c.if-image-lg_k.true
+        sym empty_is ∙ c.if-empty-many.false ∙ ap (λ (k : Coupons). k.count) is in
+    too_fine _ _ whole none c.if-image-lg_k.true
 
 pub returns : goal.returns
 unfolding empty_in
@@ -94,13 +94,13 @@ returns c =
     let is : c.args.c ≡ coupons_at c.args.image.now =
         c.requires.is in
     let whole : let l = c.args.image.now in (layout_in l).words + 4 * coupon_count l ≤ length l =
-        let l = c.args.image.now in subst (λ (k : Coupons). k.words + 4 * k.count ≤ length l) (is) c.if-image-from.false in
+        let l = c.args.image.now in subst (λ (k : Coupons). k.words + 4 * k.count ≤ length l) is c.if-image-from.false in
     let empty_is : c.first_empty-empty.result ≡ empty_in c.args.image.now =
         let k = c.args.c in
     let l = c.args.image.now in
     c.first_empty-empty.ensures
     ∙ ap (λ (x : List ℕ). first (λ i. eqb (get_or (unpacked 32 k.count x) i 0) 0) k.count) (from_on k.words l)
-    ∙ ap (λ (k : Coupons). first (λ i. eqb (get_or (unpacked 32 k.count (drop k.words l)) i 0) 0) k.count) (is) in
+    ∙ ap (λ (k : Coupons). first (λ i. eqb (get_or (unpacked 32 k.count (drop k.words l)) i 0) 0) k.count) is in
     let none : let l = c.args.image.now in empty_in l ≡ coupon_count l =
-        sym (empty_is) ∙ c.if-empty-many.false ∙ ap (λ (k : Coupons). k.count) (is) in
-    coupons_right _ _ (whole) (none) c.if-image-lg_k.false
+        sym empty_is ∙ c.if-empty-many.false ∙ ap (λ (k : Coupons). k.count) is in
+    coupons_right _ _ whole none c.if-image-lg_k.false

@@ -18,7 +18,7 @@ bytes_of-end-requires c = high _ _ _ _ c.requires
 pub overflow_add-end : goal.overflow_add-end
 overflow_add-end c =
     let whole : 40 + c.bytes_of-end.result ≤ length c.args.image.now =
-        omega (arith, c.bytes_of-end.ensures, payload_here (sound _ _ _ _ c.requires)) in
+    omega (arith, c.bytes_of-end.ensures, payload_here (sound _ _ _ _ c.requires)) in
     omega (arith, whole)
 
 pub word_count-many-requires : goal.word_count-many-requires
@@ -27,13 +27,13 @@ word_count-many-requires c = lg_arr_here (sound _ _ _ _ c.requires)
 pub slice_bounds-collect-count : goal.slice_bounds-collect-count
 slice_bounds-collect-count c =
     let whole : 40 + c.bytes_of-end.result ≤ length c.args.image.now =
-        omega (arith, c.bytes_of-end.ensures, payload_here (sound _ _ _ _ c.requires)) in
+    omega (arith, c.bytes_of-end.ensures, payload_here (sound _ _ _ _ c.requires)) in
     omega (arith, whole)
 
 pub slice_bounds-collect-start : goal.slice_bounds-collect-start
 slice_bounds-collect-start c =
     let whole : 40 + c.bytes_of-end.result ≤ length c.args.image.now =
-        omega (arith, c.bytes_of-end.ensures, payload_here (sound _ _ _ _ c.requires)) in
+    omega (arith, c.bytes_of-end.ensures, payload_here (sound _ _ _ _ c.requires)) in
     omega (arith, whole)
 
 pub collect-top-requires : goal.collect-top-requires

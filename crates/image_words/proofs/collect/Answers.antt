@@ -5,7 +5,6 @@ use mathlib.Core.List.{map}
 use Prim.Native.Nat.{ℕ, ◌^◌, ◌≤◌, ◌<◌}
 use native.Mathlib.Omega.{arith}
 use lib.ListN.{length, drop}
-use borrow.Author.Tests.{not-true, not-false}
 use borrow.Author.Rules.{rules}
 use Rattle.model.specs.Packed.{unpacked}
 use Rattle.model.specs.Coupon.{is_empty}
@@ -23,36 +22,36 @@ word_at-w-requires c = omega (arith, c.requires.whole)
 pub overflow_sub-top : goal.overflow_sub-top
 overflow_sub-top c =
     let room : 0 < c.loop-j.top =
-        stands_room _ _ _ _ _ _ c.loop-j-test.true c.loop-j.invariant.0 (omega (arith, c.loop-j.invariant.1, c.requires.fits)) c.loop-j.invariant.2 _ c.word_at-w.ensures (sym c.is_empty-none.ensures ∙ c.if-not-none.true) in
+    stands_room _ _ _ _ _ _ c.loop-j-test.true c.loop-j.invariant.0 (omega (arith, c.loop-j.invariant.1, c.requires.fits)) c.loop-j.invariant.2 _ c.word_at-w.ensures (sym c.is_empty-none.ensures ∙ c.if-not-none.true) in
     room
 
 pub offset_bounds-into-top : goal.offset_bounds-into-top
 offset_bounds-into-top c =
     let room : 0 < c.loop-j.top =
-        stands_room _ _ _ _ _ _ c.loop-j-test.true c.loop-j.invariant.0 (omega (arith, c.loop-j.invariant.1, c.requires.fits)) c.loop-j.invariant.2 _ c.word_at-w.ensures (sym c.is_empty-none.ensures ∙ c.if-not-none.true) in
+    stands_room _ _ _ _ _ _ c.loop-j-test.true c.loop-j.invariant.0 (omega (arith, c.loop-j.invariant.1, c.requires.fits)) c.loop-j.invariant.2 _ c.word_at-w.ensures (sym c.is_empty-none.ensures ∙ c.if-not-none.true) in
     omega (arith, room, c.loop-j.invariant.2.within)
 
 pub bounds-into-top : goal.bounds-into-top
 bounds-into-top c =
     let room : 0 < c.loop-j.top =
-        stands_room _ _ _ _ _ _ c.loop-j-test.true c.loop-j.invariant.0 (omega (arith, c.loop-j.invariant.1, c.requires.fits)) c.loop-j.invariant.2 _ c.word_at-w.ensures (sym c.is_empty-none.ensures ∙ c.if-not-none.true) in
+    stands_room _ _ _ _ _ _ c.loop-j-test.true c.loop-j.invariant.0 (omega (arith, c.loop-j.invariant.1, c.requires.fits)) c.loop-j.invariant.2 _ c.word_at-w.ensures (sym c.is_empty-none.ensures ∙ c.if-not-none.true) in
     omega (arith, room, c.loop-j.invariant.2.within)
 
 pub loop-j-preserved-then-not-none : goal.loop-j-preserved-then-not-none
 loop-j-preserved-then-not-none c =
     let some : is_empty c.word_at-w.result ≡ false =
-        sym c.is_empty-none.ensures ∙ c.if-not-none.true in
+    sym c.is_empty-none.ensures ∙ c.if-not-none.true in
     let enough : length (filled (unpacked 32 c.args.many c.args.words.now)) ≤ length c.loop-j.into =
-        omega (arith, c.loop-j.invariant.1, c.requires.fits) in
+    omega (arith, c.loop-j.invariant.1, c.requires.fits) in
     let l = c.loop-j in
-    (omega (arith, l.invariant.0), search rules, stands_taken _ _ _ _ _ _ c.loop-j-test.true l.invariant.0 (enough) l.invariant.2 _ c.word_at-w.ensures (some) _ c.take.ensures)
+    (omega (arith, l.invariant.0), search rules, stands_taken _ _ _ _ _ _ c.loop-j-test.true l.invariant.0 enough l.invariant.2 _ c.word_at-w.ensures some _ c.take.ensures)
 
 pub loop-j-preserved : goal.loop-j-preserved
 loop-j-preserved c =
     let enough : length (filled (unpacked 32 c.args.many c.args.words.now)) ≤ length c.loop-j.into =
-        omega (arith, c.loop-j.invariant.1, c.requires.fits) in
+    omega (arith, c.loop-j.invariant.1, c.requires.fits) in
     let l = c.loop-j in
-    (omega (arith, l.invariant.0), l.invariant.1, stands_passed _ _ _ _ _ _ c.loop-j-test.true l.invariant.0 (enough) l.invariant.2 _ c.word_at-w.ensures (sym c.is_empty-none.ensures ∙ c.if-not-none.false))
+    (omega (arith, l.invariant.0), l.invariant.1, stands_passed _ _ _ _ _ _ c.loop-j-test.true l.invariant.0 enough l.invariant.2 _ c.word_at-w.ensures (sym c.is_empty-none.ensures ∙ c.if-not-none.false))
 
 pub shape_of-into : goal.shape_of-into
 shape_of-into c = c.loop-j.invariant.1

@@ -17,53 +17,52 @@ returns-then-number-ne0 c = write_no_lem _ _ _ _ c.check-answer.ensures (λ e. c
 pub image_len-len-requires : goal.image_len-len-requires
 image_len-len-requires c =
     let passed : let a = c.args in check_no true a.sketch a.regs.now a.aux.now ≡ 0 =
-        sym c.check-answer.ensures ∙ sym c.number.ensures ∙ c.if-number-ne0.false in
+    sym c.check-answer.ensures ∙ sym c.number.ensures ∙ c.if-number-ne0.false in
     let good : let a = c.args in Good a.sketch a.regs.now a.aux.now =
-        check_ok _ _ _ _ (λ i. (c.type_inv.regs i).fits) (passed) in
+    check_ok _ _ _ _ (λ i. (c.type_inv.regs i).fits) passed in
     good
 
 pub returns-then-out-len : goal.returns-then-out-len
 returns-then-out-len c =
     let passed : let a = c.args in check_no true a.sketch a.regs.now a.aux.now ≡ 0 =
-        sym c.check-answer.ensures ∙ sym c.number.ensures ∙ c.if-number-ne0.false in
-    write_out _ _ _ _ (passed) (omega (arith, c.image_len-len.ensures))
+    sym c.check-answer.ensures ∙ sym c.number.ensures ∙ c.if-number-ne0.false in
+    write_out _ _ _ _ passed (omega (arith, c.image_len-len.ensures))
 
 pub counts-requires : goal.counts-requires
 counts-requires c =
     let passed : let a = c.args in check_no true a.sketch a.regs.now a.aux.now ≡ 0 =
-        sym c.check-answer.ensures ∙ sym c.number.ensures ∙ c.if-number-ne0.false in
+    sym c.check-answer.ensures ∙ sym c.number.ensures ∙ c.if-number-ne0.false in
     let good : let a = c.args in Good a.sketch a.regs.now a.aux.now =
-        check_ok _ _ _ _ (λ i. (c.type_inv.regs i).fits) (passed) in
+    check_ok _ _ _ _ (λ i. (c.type_inv.regs i).fits) passed in
     good
 
 pub from_counts-sums-requires : goal.from_counts-sums-requires
 from_counts-sums-requires c =
     let passed : let a = c.args in check_no true a.sketch a.regs.now a.aux.now ≡ 0 =
-        sym c.check-answer.ensures ∙ sym c.number.ensures ∙ c.if-number-ne0.false in
+    sym c.check-answer.ensures ∙ sym c.number.ensures ∙ c.if-number-ne0.false in
     let good : let a = c.args in Good a.sketch a.regs.now a.aux.now =
-        check_ok _ _ _ _ (λ i. (c.type_inv.regs i).fits) (passed) in
-    good_few _ _ _ (good) c.counts.ensures
+    check_ok _ _ _ _ (λ i. (c.type_inv.regs i).fits) passed in
+    good_few _ _ _ good c.counts.ensures
 
 pub write_image-requires : goal.write_image-requires
 write_image-requires c =
     let passed : let a = c.args in check_no true a.sketch a.regs.now a.aux.now ≡ 0 =
-        sym c.check-answer.ensures ∙ sym c.number.ensures ∙ c.if-number-ne0.false in
+    sym c.check-answer.ensures ∙ sym c.number.ensures ∙ c.if-number-ne0.false in
     let good : let a = c.args in Good a.sketch a.regs.now a.aux.now =
-        check_ok _ _ _ _ (λ i. (c.type_inv.regs i).fits) (passed) in
+    check_ok _ _ _ _ (λ i. (c.type_inv.regs i).fits) passed in
     let summed_is : let a = c.args in
     summed c.from_counts-sums.result ≡ sums_for (registers a.sketch a.regs.now a.aux.now) =
-        c.from_counts-sums.ensures _ c.counts.ensures in
+    c.from_counts-sums.ensures _ c.counts.ensures in
     record {
-  good = good;
-  low = ap (λ (s : Summed). s.low) (summed_is);
-  high = ap (λ (s : Summed). s.high) (summed_is);
-  room = omega (arith, c.image_len-len.ensures);
-
-}
+      good = good;
+      low = ap (λ (s : Summed). s.low) summed_is;
+      high = ap (λ (s : Summed). s.high) summed_is;
+      room = omega (arith, c.image_len-len.ensures);
+    }
 
 pub returns : goal.returns
 returns c =
     let passed : let a = c.args in check_no true a.sketch a.regs.now a.aux.now ≡ 0 =
-        sym c.check-answer.ensures ∙ sym c.number.ensures ∙ c.if-number-ne0.false in
+    sym c.check-answer.ensures ∙ sym c.number.ensures ∙ c.if-number-ne0.false in
     let long = c.image_len-len.ensures in
-    write_ok _ _ _ _ (passed) (omega (arith, long)) long c.write_image.ensures
+    write_ok _ _ _ _ passed (omega (arith, long)) long c.write_image.ensures

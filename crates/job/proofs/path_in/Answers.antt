@@ -19,7 +19,7 @@ overflow_add-from c =
     let keyed : let a = c.args in stands_at a.key.now (drop a.at a.job.now) ≡ true =
         sym c.stands-found.ensures ∙ c.if-not-found.false in
     let room : let a = c.args in length a.key.now ≤ length a.job.now - a.at =
-        let a = c.args in key_room _ a.job.now a.at (keyed) in
+        let a = c.args in key_room _ a.job.now a.at keyed in
     omega (arith, room)
 
 pub returns-then-n-gt200 : goal.returns-then-n-gt200
@@ -30,7 +30,7 @@ overflow_add-end c =
     let keyed : let a = c.args in stands_at a.key.now (drop a.at a.job.now) ≡ true =
         sym c.stands-found.ensures ∙ c.if-not-found.false in
     let room : let a = c.args in length a.key.now ≤ length a.job.now - a.at =
-        let a = c.args in key_room _ a.job.now a.at (keyed) in
+        let a = c.args in key_room _ a.job.now a.at keyed in
     let a = c.args in
     omega (arith, room, span_room a.key.now a.job.now a.at _ c.span-n.ensures)
 
@@ -44,4 +44,4 @@ pub returns : goal.returns
 returns c =
     let keyed : let a = c.args in stands_at a.key.now (drop a.at a.job.now) ≡ true =
         sym c.stands-found.ensures ∙ c.if-not-found.false in
-    path_found _ _ _ _ c.span-n.ensures (keyed) c.if-n-gt200.false c.if-job-end-ne10.false
+    path_found _ _ _ _ c.span-n.ensures keyed c.if-n-gt200.false c.if-job-end-ne10.false

@@ -12,7 +12,6 @@ use Rattle.model.specs.Answers.{Said}
 use Rattle.model.specs.Four.{registers4}
 use Rattle.model.specs.Sketch.{bytes_of, area_of, table_in, registers, Shaped, Good}
 use Rattle.model.specs.Check.{scratch_fits}
-use Rattle.model.specs.Calls.{out}
 use Rattle.model.specs.Image.{header, image_in, Written, write_of, sketch_in, regs_in, word_count, words_in, entries_in, aux_in, open_of}
 use Rattle.model.specs.Claims.{EntryAt, Again, Reopens}
 use Rattle.model.specs.declared.Sketch.{Sketch}

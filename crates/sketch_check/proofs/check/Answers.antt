@@ -2,7 +2,6 @@
 use mathlib.Core.Path.{◌≡◌, sym, ◌∙◌}
 use mathlib.Core.Bool.{true, false}
 use lib.ListN.{length}
-use borrow.Author.Tests.{not-true, not-false}
 use Rattle.model.specs.Check.{shape_no}
 use Rattle.model.proofs.calls.Ladder.{shape_says}
 use Rattle.model.proofs.calls.Rungs.{check_shape, check_lent, check_good}
@@ -14,23 +13,23 @@ returns-then-number-ne0 c = check_shape _ _ _ _ _ c.check_shape-answer.ensures (
 pub returns-then-not-lent : goal.returns-then-not-lent
 returns-then-not-lent c =
     let shape_ok : let a = c.args in shape_no a.s.kind a.s.lg_k (length a.regs.now) ≡ 0 =
-        sym c.check_shape-answer.ensures ∙ sym c.number.ensures ∙ c.if-number-ne0.false in
-    check_lent _ _ _ _ (shape_ok) c.if-not-lent.true
+    sym c.check_shape-answer.ensures ∙ sym c.number.ensures ∙ c.if-number-ne0.false in
+    check_lent _ _ _ _ shape_ok c.if-not-lent.true
 
 pub is_good-requires : goal.is_good-requires
 is_good-requires c =
     let shape_ok : let a = c.args in shape_no a.s.kind a.s.lg_k (length a.regs.now) ≡ 0 =
-        sym c.check_shape-answer.ensures ∙ sym c.number.ensures ∙ c.if-number-ne0.false in
-    (shape_says _ _ _).0 (shape_ok)
+    sym c.check_shape-answer.ensures ∙ sym c.number.ensures ∙ c.if-number-ne0.false in
+    (shape_says _ _ _).0 shape_ok
 
 pub returns-then-is_good : goal.returns-then-is_good
 returns-then-is_good c =
     let shape_ok : let a = c.args in shape_no a.s.kind a.s.lg_k (length a.regs.now) ≡ 0 =
-        sym c.check_shape-answer.ensures ∙ sym c.number.ensures ∙ c.if-number-ne0.false in
-    check_good _ _ _ _ (shape_ok) true (sym c.if-is_good.true ∙ c.is_good.ensures) c.if-not-lent.false
+    sym c.check_shape-answer.ensures ∙ sym c.number.ensures ∙ c.if-number-ne0.false in
+    check_good _ _ _ _ shape_ok true (sym c.if-is_good.true ∙ c.is_good.ensures) c.if-not-lent.false
 
 pub returns : goal.returns
 returns c =
     let shape_ok : let a = c.args in shape_no a.s.kind a.s.lg_k (length a.regs.now) ≡ 0 =
-        sym c.check_shape-answer.ensures ∙ sym c.number.ensures ∙ c.if-number-ne0.false in
-    check_good _ _ _ _ (shape_ok) false (sym c.if-is_good.false ∙ c.is_good.ensures) c.if-not-lent.false
+    sym c.check_shape-answer.ensures ∙ sym c.number.ensures ∙ c.if-number-ne0.false in
+    check_good _ _ _ _ shape_ok false (sym c.if-is_good.false ∙ c.is_good.ensures) c.if-not-lent.false

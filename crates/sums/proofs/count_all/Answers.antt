@@ -1,5 +1,4 @@
 -- `sums::count_all` meets its contract. The invariant: the counts are of the registers before and of those passed. Assumes nothing.
-use Prim.Native.Nat.{◌-◌}
 use Rattle.sums.proofs.Tallies.{counted_start, next_asks, counted_next, counted_all}
 use Rattle.sums.proofs.count_all.Goals as goal
 

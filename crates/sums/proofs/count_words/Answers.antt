@@ -1,5 +1,4 @@
 -- `sums::count_words` meets its contract. What is left are the words from `i` on. Assumes nothing.
-use Prim.Native.Nat.{◌-◌}
 use native.Mathlib.Omega.{arith}
 use Rattle.sums.proofs.Tallies.{saying_none, saying_asks, saying_turn, saying_few, saying_end}
 use Rattle.sums.proofs.count_words.Goals as goal

@@ -8,21 +8,22 @@ use lib.Pow.{pow_mono}
 use borrow.Author.Tests.{eq-eqb, ne_eqb, le-leb, lt-leb}
 use Rattle.model.specs.Check.{counts_fit}
 use Rattle.survey.proofs.counts_fit.Goals as goal
+
 -- the two counts are not over k
 pub returns-then-k-s : goal.returns-then-k-s
 unfolding counts_fit
 returns-then-k-s c =
     let size : 1 * 2 ^ c.args.s.lg_k % 4294967296 ≡ 2 ^ c.args.s.lg_k =
-        omega (arith, pow_mono c.requires) in
+    omega (arith, pow_mono c.requires) in
     rw (lt-leb c.args.s.num_at_cur_min (2 ^ c.args.s.lg_k) (omega (arith, size, c.if-k-s.true)))
 
 pub returns-then-k-s-2 : goal.returns-then-k-s-2
 unfolding counts_fit
 returns-then-k-s-2 c =
     let size : 1 * 2 ^ c.args.s.lg_k % 4294967296 ≡ 2 ^ c.args.s.lg_k =
-        omega (arith, pow_mono c.requires) in
+    omega (arith, pow_mono c.requires) in
     let num : leb c.args.s.num_at_cur_min (2 ^ c.args.s.lg_k) ≡ true =
-        let s = c.args.s in
+    let s = c.args.s in
     le-leb s.num_at_cur_min (2 ^ s.lg_k) (omega (arith, size, c.if-k-s.false)) in
     rw (num, lt-leb c.args.s.aux_count (2 ^ c.args.s.lg_k) (omega (arith, size, c.if-k-s-2.true)))
 
@@ -30,12 +31,12 @@ pub returns-then-s-eq4 : goal.returns-then-s-eq4
 unfolding counts_fit
 returns-then-s-eq4 c =
     let size : 1 * 2 ^ c.args.s.lg_k % 4294967296 ≡ 2 ^ c.args.s.lg_k =
-        omega (arith, pow_mono c.requires) in
+    omega (arith, pow_mono c.requires) in
     let num : leb c.args.s.num_at_cur_min (2 ^ c.args.s.lg_k) ≡ true =
-        let s = c.args.s in
+    let s = c.args.s in
     le-leb s.num_at_cur_min (2 ^ s.lg_k) (omega (arith, size, c.if-k-s.false)) in
     let count : leb c.args.s.aux_count (2 ^ c.args.s.lg_k) ≡ true =
-        let s = c.args.s in
+    let s = c.args.s in
     le-leb s.aux_count (2 ^ s.lg_k) (omega (arith, size, c.if-k-s-2.false)) in
     rw (num, count, eq-eqb _ 4 c.if-s-eq4.true) refl
 
@@ -43,12 +44,12 @@ pub returns-then-s-ne0 : goal.returns-then-s-ne0
 unfolding counts_fit
 returns-then-s-ne0 c =
     let size : 1 * 2 ^ c.args.s.lg_k % 4294967296 ≡ 2 ^ c.args.s.lg_k =
-        omega (arith, pow_mono c.requires) in
+    omega (arith, pow_mono c.requires) in
     let num : leb c.args.s.num_at_cur_min (2 ^ c.args.s.lg_k) ≡ true =
-        let s = c.args.s in
+    let s = c.args.s in
     le-leb s.num_at_cur_min (2 ^ s.lg_k) (omega (arith, size, c.if-k-s.false)) in
     let count : leb c.args.s.aux_count (2 ^ c.args.s.lg_k) ≡ true =
-        let s = c.args.s in
+    let s = c.args.s in
     le-leb s.aux_count (2 ^ s.lg_k) (omega (arith, size, c.if-k-s-2.false)) in
     rw (num, count, ne_eqb _ 4 c.if-s-eq4.false, ne_eqb _ 0 c.if-s-ne0.true)
 
@@ -56,11 +57,11 @@ pub returns : goal.returns
 unfolding counts_fit
 returns c =
     let size : 1 * 2 ^ c.args.s.lg_k % 4294967296 ≡ 2 ^ c.args.s.lg_k =
-        omega (arith, pow_mono c.requires) in
+    omega (arith, pow_mono c.requires) in
     let num : leb c.args.s.num_at_cur_min (2 ^ c.args.s.lg_k) ≡ true =
-        let s = c.args.s in
+    let s = c.args.s in
     le-leb s.num_at_cur_min (2 ^ s.lg_k) (omega (arith, size, c.if-k-s.false)) in
     let count : leb c.args.s.aux_count (2 ^ c.args.s.lg_k) ≡ true =
-        let s = c.args.s in
+    let s = c.args.s in
     le-leb s.aux_count (2 ^ s.lg_k) (omega (arith, size, c.if-k-s-2.false)) in
     rw (num, count, ne_eqb _ 4 c.if-s-eq4.false, eq-eqb _ 0 c.if-s-ne0.false) refl

@@ -1,5 +1,4 @@
 -- `survey_whole::count` meets its contract. What is left to count are the nibbles of the bytes from `from` on. Assumes nothing.
-use Prim.Native.Nat.{◌-◌}
 use native.Mathlib.Omega.{arith}
 use borrow.Author.Rules.{rules}
 use Rattle.survey_whole.proofs.Counted.{left_all, left_none, left_few}

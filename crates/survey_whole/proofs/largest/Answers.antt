@@ -1,6 +1,6 @@
 -- `survey_whole::largest` meets its contract. Assumes nothing.
 use mathlib.Core.Path.{◌≡◌, ◌∙◌, ap}
-use Prim.Native.Nat.{ℕ, max, ◌*◌, ◌/◌, ◌-◌, ◌<◌}
+use Prim.Native.Nat.{ℕ, max, ◌*◌, ◌/◌, ◌<◌}
 use native.Mathlib.Omega.{arith}
 use lib.ListN.{length}
 use Rattle.model.specs.Packed.{Bytes}

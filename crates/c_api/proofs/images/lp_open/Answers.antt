@@ -4,4 +4,4 @@ use Rattle.c_api.proofs.images.lp_open.Goals as goal
 
 pub returns : goal.returns
 returns c =
-    handing _ c.«open».ensures c.put.ensures c.told.ensures
+    handing _ c.open-opened.ensures c.put.ensures c.told.ensures

@@ -1,9 +1,8 @@
 -- `image_put::words::put_words` meets its contract: what is left of the words, put behind those written, gives them all. Assumes nothing.
 use mathlib.Core.Path.{sym, ap, ◌∙◌}
-use Prim.Native.Nat.{◌+◌, ◌-◌, ◌*◌, ◌<◌}
+use Prim.Native.Nat.{◌+◌, ◌*◌, ◌<◌}
 use native.Mathlib.Omega.{arith}
 use lib.ListN.{length}
-use borrow.Author.Tests.{not-true, not-false}
 use Rattle.image_put.specs.Parts.{over}
 use Rattle.image_put.proofs.Turns.{left_all, left_none, left_inside, left_passed, left_written}
 use Rattle.image_put.proofs.words.put_words.Goals as goal
@@ -14,25 +13,25 @@ loop-n-init c = left_all _ _ _ _ c.requires.enough
 pub offset_bounds-words-i : goal.offset_bounds-words-i
 offset_bounds-words-i c =
     let inside : c.loop-n.i < length c.args.words.now =
-        left_inside _ _ _ _ _ _ _ c.loop-n.invariant c.loop-n-test.true in
+    left_inside _ _ _ _ _ _ _ c.loop-n.invariant c.loop-n-test.true in
     omega (arith, inside)
 
 pub bounds-words-i : goal.bounds-words-i
 bounds-words-i c =
     let inside : c.loop-n.i < length c.args.words.now =
-        left_inside _ _ _ _ _ _ _ c.loop-n.invariant c.loop-n-test.true in
+    left_inside _ _ _ _ _ _ _ c.loop-n.invariant c.loop-n-test.true in
     inside
 
 pub overflow_add-i : goal.overflow_add-i
 overflow_add-i c =
     let inside : c.loop-n.i < length c.args.words.now =
-        left_inside _ _ _ _ _ _ _ c.loop-n.invariant c.loop-n-test.true in
+    left_inside _ _ _ _ _ _ _ c.loop-n.invariant c.loop-n-test.true in
     omega (arith, inside)
 
 pub loop-n-smaller-then-not-is_empty : goal.loop-n-smaller-then-not-is_empty
 loop-n-smaller-then-not-is_empty c =
     let inside : c.loop-n.i < length c.args.words.now =
-        left_inside _ _ _ _ _ _ _ c.loop-n.invariant c.loop-n-test.true in
+    left_inside _ _ _ _ _ _ _ c.loop-n.invariant c.loop-n-test.true in
     omega (arith, inside)
 
 pub loop-n-preserved-then-not-is_empty : goal.loop-n-preserved-then-not-is_empty
@@ -44,7 +43,7 @@ loop-n-preserved-then-not-is_empty c =
 pub loop-n-smaller : goal.loop-n-smaller
 loop-n-smaller c =
     let inside : c.loop-n.i < length c.args.words.now =
-        left_inside _ _ _ _ _ _ _ c.loop-n.invariant c.loop-n-test.true in
+    left_inside _ _ _ _ _ _ _ c.loop-n.invariant c.loop-n-test.true in
     omega (arith, inside)
 
 pub loop-n-preserved : goal.loop-n-preserved

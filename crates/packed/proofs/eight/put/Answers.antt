@@ -1,5 +1,5 @@
 -- `packed::eight::put` meets its contract: the first i bytes stand over the buffer. Assumes nothing.
-use Prim.Native.Nat.{ℕ, ◌-◌, ◌+◌, zero-le}
+use Prim.Native.Nat.{ℕ, ◌+◌, zero-le}
 use native.Mathlib.Numerals.{add-one}
 use native.Mathlib.Omega.{arith}
 use mathlib.Core.Path.{◌≡◌, refl, sym, ap, ◌∙◌}

@@ -1,5 +1,4 @@
 -- `packed::four::put_raw` meets its contract: a nibble is a cell of 4 bits that lies in one byte. Assumes nothing.
-use Prim.Native.Nat.{◌/◌}
 use borrow.Author.Rules.{rules}
 use native.Mathlib.Omega.{arith}
 use Rattle.packed.proofs.Cells.{put_one}

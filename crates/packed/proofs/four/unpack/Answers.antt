@@ -1,5 +1,4 @@
 -- `packed::four::unpack` meets its contract. The two cells of each byte below `at` are filled in. Assumes nothing.
-use Prim.Native.Nat.{◌-◌}
 use native.Mathlib.Omega.{arith}
 use lib.ListN.{length-set}
 use Rattle.model.proofs.packing.Packing.{filled_all}

@@ -1,6 +1,5 @@
 -- `packed::words::unpack` meets its contract. The cells below `i` are filled in. Assumes nothing.
 use mathlib.Core.Path.{refl}
-use Prim.Native.Nat.{◌-◌}
 use native.Mathlib.Omega.{arith}
 use lib.ListN.{length-set}
 use Rattle.model.specs.Packed.{slot_at}
