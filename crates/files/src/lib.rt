@@ -18,24 +18,24 @@ pub struct Got {
 }
 
 // One read, into buf from a place on.
-fn read_some<R: Read>(from: &mut R, buf: &mut [u8], at: usize) -> Got
-    requires { at ≤ length buf.old }
-    ensures { at + result.n ≤ length buf.old }
+fn read_some<R: Read>(input: &mut R, buf: &mut [u8], from: usize) -> Got
+    requires { from ≤ length buf.old }
+    ensures { from + result.n ≤ length buf.old }
 {
-    match from.read(&mut buf[at..]) {
+    match input.read(&mut buf[from..]) {
         Ok(n) => Got { failed: false, n },
         Err(_) => Got { failed: true, n: 0 },
     }
 }
 
 // Reads until buf is full, the input ends or a read fails, and tells the last two apart.
-pub fn read_all<R: Read>(from: &mut R, buf: &mut [u8]) -> Got
+pub fn read_all<R: Read>(input: &mut R, buf: &mut [u8]) -> Got
     ensures { IsPrefixLen result.n buf.new }
 {
     let mut done = 0;
     let mut failed = false;
     while done < buf.len() {
-        let g = read_some(from, buf, done);
+        let g = read_some(input, buf, done);
         if g.failed {
             failed = true;
             break;
