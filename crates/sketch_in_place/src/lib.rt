@@ -30,7 +30,7 @@ pub fn feed_in_place(
     }
 }
 
-// A record by value through the thin form: it is kept in a local, and lent. Whoever calls this one needs no walk by hand.
+// A record by value through the thin form: it is kept in a local, and lent.
 pub fn feed_by_lending(
     sketch: Sketch,
     regs: &mut [u8],

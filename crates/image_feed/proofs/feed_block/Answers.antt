@@ -23,13 +23,13 @@ unpack-requires c =
 pub slice_bounds-block-end-2 : goal.slice_bounds-block-end-2
 slice_bounds-block-end-2 c =
     let fits : c.args.n ≤ length (c.unpack.new.out ++ drop c.args.n zeros) =
-        front_fits c.args.n c.args.words.now zeros c.unpack.new.out c.requires.1 c.unpack.ensures in
+    front_fits c.args.n c.args.words.now zeros c.unpack.new.out c.requires.1 c.unpack.ensures in
     fits
 
 pub slice_bounds-feed-end : goal.slice_bounds-feed-end
 slice_bounds-feed-end c =
     let fits : c.args.n ≤ length (c.unpack.new.out ++ drop c.args.n zeros) =
-        front_fits c.args.n c.args.words.now zeros c.unpack.new.out c.requires.1 c.unpack.ensures in
+    front_fits c.args.n c.args.words.now zeros c.unpack.new.out c.requires.1 c.unpack.ensures in
     sym (length-take-le _ _ fits)
 
 pub returns : goal.returns

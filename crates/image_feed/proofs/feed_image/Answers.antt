@@ -24,47 +24,47 @@ pub returns-then-number-ne0-2 : goal.returns-then-number-ne0-2
 returns-then-number-ne0-2 c =
     let good : let a = c.args in
     check_no (scratch_fits a.sketch.kind (length a.aux.now) (length a.scratch.now)) a.sketch a.regs.now a.aux.now ≡ 0 =
-        sym c.check-mine.ensures ∙ sym c.number.ensures ∙ c.if-number-ne0.false in
+    sym c.check-mine.ensures ∙ sym c.number.ensures ∙ c.if-number-ne0.false in
     by_preamble _ _ _ _ _ good _ _ c.refused-then-number-ne0-2.ensures c.preamble-begun.ensures (λ e. c.if-number-ne0-2.true (c.number-2.ensures ∙ e))
 
 pub coupons_in-c-requires : goal.coupons_in-c-requires
 coupons_in-c-requires c =
     let begun : preamble_no c.args.image.now ≡ 0 =
-        ap (λ (x : Said). x.no) (sym c.preamble-begun.ensures) ∙ sym c.number-2.ensures ∙ c.if-number-ne0-2.false in
+    ap (λ (x : Said). x.no) (sym c.preamble-begun.ensures) ∙ sym c.number-2.ensures ∙ c.if-number-ne0-2.false in
     begun
 
 pub check-theirs-requires : goal.check-theirs-requires
 check-theirs-requires c =
     let begun : preamble_no c.args.image.now ≡ 0 =
-        ap (λ (x : Said). x.no) (sym c.preamble-begun.ensures) ∙ sym c.number-2.ensures ∙ c.if-number-ne0-2.false in
+    ap (λ (x : Said). x.no) (sym c.preamble-begun.ensures) ∙ sym c.number-2.ensures ∙ c.if-number-ne0-2.false in
     let read : c.coupons_in-c.result ≡ coupons_at c.args.image.now =
-        c.coupons_in-c.ensures in
+    c.coupons_in-c.ensures in
     record { passed = begun; is = read }
 
 pub returns-then-number-ne0-3 : goal.returns-then-number-ne0-3
 returns-then-number-ne0-3 c =
     let good : let a = c.args in
     check_no (scratch_fits a.sketch.kind (length a.aux.now) (length a.scratch.now)) a.sketch a.regs.now a.aux.now ≡ 0 =
-        sym c.check-mine.ensures ∙ sym c.number.ensures ∙ c.if-number-ne0.false in
+    sym c.check-mine.ensures ∙ sym c.number.ensures ∙ c.if-number-ne0.false in
     let begun : preamble_no c.args.image.now ≡ 0 =
-        ap (λ (x : Said). x.no) (sym c.preamble-begun.ensures) ∙ sym c.number-2.ensures ∙ c.if-number-ne0-2.false in
+    ap (λ (x : Said). x.no) (sym c.preamble-begun.ensures) ∙ sym c.number-2.ensures ∙ c.if-number-ne0-2.false in
     by_coupons _ _ _ _ _ good begun _ _ c.refused-then-number-ne0-3.ensures c.check-theirs.ensures (λ e. c.if-number-ne0-3.true (c.number-3.ensures ∙ e))
 
 pub slice_bounds-feed_words-count : goal.slice_bounds-feed_words-count
 slice_bounds-feed_words-count c =
     let right : let a = c.args in coupons_no a.sketch.lg_k a.image.now ≡ 0 =
-        ap (λ (x : Said). x.no) (sym c.check-theirs.ensures) ∙ sym c.number-3.ensures ∙ c.if-number-ne0-3.false in
+    ap (λ (x : Said). x.no) (sym c.check-theirs.ensures) ∙ sym c.number-3.ensures ∙ c.if-number-ne0-3.false in
     let whole : let k = c.coupons_in-c.result in k.words + 4 * k.count ≤ length c.args.image.now =
-        let l = c.args.image.now in
+    let l = c.args.image.now in
     subst (λ (k : Coupons). k.words + 4 * k.count ≤ length l) (sym c.coupons_in-c.ensures) (coupons_long l _ right) in
     omega (arith, whole)
 
 pub slice_bounds-feed_words-start : goal.slice_bounds-feed_words-start
 slice_bounds-feed_words-start c =
     let right : let a = c.args in coupons_no a.sketch.lg_k a.image.now ≡ 0 =
-        ap (λ (x : Said). x.no) (sym c.check-theirs.ensures) ∙ sym c.number-3.ensures ∙ c.if-number-ne0-3.false in
+    ap (λ (x : Said). x.no) (sym c.check-theirs.ensures) ∙ sym c.number-3.ensures ∙ c.if-number-ne0-3.false in
     let whole : let k = c.coupons_in-c.result in k.words + 4 * k.count ≤ length c.args.image.now =
-        let l = c.args.image.now in
+    let l = c.args.image.now in
     subst (λ (k : Coupons). k.words + 4 * k.count ≤ length l) (sym c.coupons_in-c.ensures) (coupons_long l _ right) in
     omega (arith, whole)
 
@@ -72,11 +72,11 @@ pub feed_words-requires : goal.feed_words-requires
 feed_words-requires c =
     let good : let a = c.args in
     check_no (scratch_fits a.sketch.kind (length a.aux.now) (length a.scratch.now)) a.sketch a.regs.now a.aux.now ≡ 0 =
-        sym c.check-mine.ensures ∙ sym c.number.ensures ∙ c.if-number-ne0.false in
+    sym c.check-mine.ensures ∙ sym c.number.ensures ∙ c.if-number-ne0.false in
     let right : let a = c.args in coupons_no a.sketch.lg_k a.image.now ≡ 0 =
-        ap (λ (x : Said). x.no) (sym c.check-theirs.ensures) ∙ sym c.number-3.ensures ∙ c.if-number-ne0-3.false in
+    ap (λ (x : Said). x.no) (sym c.check-theirs.ensures) ∙ sym c.number-3.ensures ∙ c.if-number-ne0-3.false in
     let whole : let k = c.coupons_in-c.result in k.words + 4 * k.count ≤ length c.args.image.now =
-        let l = c.args.image.now in
+    let l = c.args.image.now in
     subst (λ (k : Coupons). k.words + 4 * k.count ≤ length l) (sym c.coupons_in-c.ensures) (coupons_long l _ right) in
     let l = c.args.image.now in
     let part = ap length (from_on c.coupons_in-c.result.words l) ∙ length-drop c.coupons_in-c.result.words l in
@@ -86,13 +86,13 @@ pub returns : goal.returns
 returns c =
     let good : let a = c.args in
     check_no (scratch_fits a.sketch.kind (length a.aux.now) (length a.scratch.now)) a.sketch a.regs.now a.aux.now ≡ 0 =
-        sym c.check-mine.ensures ∙ sym c.number.ensures ∙ c.if-number-ne0.false in
+    sym c.check-mine.ensures ∙ sym c.number.ensures ∙ c.if-number-ne0.false in
     let begun : preamble_no c.args.image.now ≡ 0 =
-        ap (λ (x : Said). x.no) (sym c.preamble-begun.ensures) ∙ sym c.number-2.ensures ∙ c.if-number-ne0-2.false in
+    ap (λ (x : Said). x.no) (sym c.preamble-begun.ensures) ∙ sym c.number-2.ensures ∙ c.if-number-ne0-2.false in
     let read : c.coupons_in-c.result ≡ coupons_at c.args.image.now =
-        c.coupons_in-c.ensures in
+    c.coupons_in-c.ensures in
     let right : let a = c.args in coupons_no a.sketch.lg_k a.image.now ≡ 0 =
-        ap (λ (x : Said). x.no) (sym c.check-theirs.ensures) ∙ sym c.number-3.ensures ∙ c.if-number-ne0-3.false in
+    ap (λ (x : Said). x.no) (sym c.check-theirs.ensures) ∙ sym c.number-3.ensures ∙ c.if-number-ne0-3.false in
     let a = c.args in
     let l = a.image.now in
     let k = c.coupons_in-c.result in

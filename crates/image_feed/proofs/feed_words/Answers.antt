@@ -1,6 +1,6 @@
 -- `image_feed::feed_words` meets its contract: `Feeding` says what is left of the words. Assumes nothing.
 use mathlib.Core.Path.{◌≡◌, refl, sym, ap, ◌∙◌}
-use Prim.Native.Nat.{◌+◌, ◌-◌, ◌*◌, ◌≤◌, ◌<◌}
+use Prim.Native.Nat.{◌+◌, ◌*◌, ◌≤◌, ◌<◌}
 use native.Mathlib.Omega.{arith}
 use lib.ListN.{length, take, drop, length-drop}
 use Rattle.model.specs.Packed.{unpacked}
@@ -9,6 +9,7 @@ use Rattle.model.proofs.packing.Packing.{length_unpacked}
 use Rattle.model.proofs.packing.ByteLists.{from_on}
 use Rattle.image_feed.proofs.Feeding as feeding
 use Rattle.image_feed.proofs.feed_words.Goals as goal
+
 -- it lies within the words
 pub loop-i-init : goal.loop-i-init
 loop-i-init c = (refl, refl, refl, feeding.feeding_none _ _ _ _ c.requires.0.good)
@@ -18,7 +19,7 @@ pub overflow_mul-i : goal.overflow_mul-i
 overflow_mul-i c =
     let step : let n = c.lesser-n.result in let i = c.loop-i.i in let a = c.args in
     (0 < n) × (n ≤ 64) × (i + n ≤ a.many) × (4 * (i + n) ≤ length a.words.now) =
-        let h = c.loop-i-test.true in
+    let h = c.loop-i-test.true in
     let e = c.lesser-n.ensures in
     let w = c.requires.1 in
     (omega arith, omega arith, omega arith, omega arith) in
@@ -28,7 +29,7 @@ pub slice_bounds-feed_block-count : goal.slice_bounds-feed_block-count
 slice_bounds-feed_block-count c =
     let step : let n = c.lesser-n.result in let i = c.loop-i.i in let a = c.args in
     (0 < n) × (n ≤ 64) × (i + n ≤ a.many) × (4 * (i + n) ≤ length a.words.now) =
-        let h = c.loop-i-test.true in
+    let h = c.loop-i-test.true in
     let e = c.lesser-n.ensures in
     let w = c.requires.1 in
     (omega arith, omega arith, omega arith, omega arith) in
@@ -38,7 +39,7 @@ pub slice_bounds-feed_block-start : goal.slice_bounds-feed_block-start
 slice_bounds-feed_block-start c =
     let step : let n = c.lesser-n.result in let i = c.loop-i.i in let a = c.args in
     (0 < n) × (n ≤ 64) × (i + n ≤ a.many) × (4 * (i + n) ≤ length a.words.now) =
-        let h = c.loop-i-test.true in
+    let h = c.loop-i-test.true in
     let e = c.lesser-n.ensures in
     let w = c.requires.1 in
     (omega arith, omega arith, omega arith, omega arith) in
@@ -48,7 +49,7 @@ pub feed_block-f-requires : goal.feed_block-f-requires
 feed_block-f-requires c =
     let step : let n = c.lesser-n.result in let i = c.loop-i.i in let a = c.args in
     (0 < n) × (n ≤ 64) × (i + n ≤ a.many) × (4 * (i + n) ≤ length a.words.now) =
-        let h = c.loop-i-test.true in
+    let h = c.loop-i-test.true in
     let e = c.lesser-n.ensures in
     let w = c.requires.1 in
     (omega arith, omega arith, omega arith, omega arith) in
@@ -68,20 +69,20 @@ pub overflow_add-result : goal.overflow_add-result
 overflow_add-result c =
     let step : let n = c.lesser-n.result in let i = c.loop-i.i in let a = c.args in
     (0 < n) × (n ≤ 64) × (i + n ≤ a.many) × (4 * (i + n) ≤ length a.words.now) =
-        let h = c.loop-i-test.true in
+    let h = c.loop-i-test.true in
     let e = c.lesser-n.ensures in
     let w = c.requires.1 in
     (omega arith, omega arith, omega arith, omega arith) in
     let block : let l = c.loop-i in let a = c.args in
     fed_out c.feed_block-f.result c.feed_block-f.new.regs c.feed_block-f.new.aux
     ≡ batch_of l.fed l.regs l.aux (take c.lesser-n.result (drop l.i (unpacked 32 a.many a.words.now))) =
-        let words = c.args.words.now in
+    let words = c.args.words.now in
     c.feed_block-f.ensures
     ∙ ap (batch_of c.loop-i.fed c.loop-i.regs c.loop-i.aux)
     (ap (unpacked 32 c.lesser-n.result) (from_on (4 * c.loop-i.i) words)
     ∙ feeding.block_words c.loop-i.i c.lesser-n.result c.args.many words (λ i. (c.type_inv.words i).fits) c.requires.1 step.2) in
     let within : let a = c.args in c.loop-i.i + c.lesser-n.result ≤ length (unpacked 32 a.many a.words.now) =
-        let a = c.args in rw (length_unpacked 32 a.many a.words.now) step.2 in
+    let a = c.args in rw (length_unpacked 32 a.many a.words.now) step.2 in
     omega (arith, step, feeding.feeding_few c.loop-i.invariant.3 c.lesser-n.result within _ block)
 
 pub shape_of-regs-then-number-ne0 : goal.shape_of-regs-then-number-ne0
@@ -100,27 +101,27 @@ pub returns-then-number-ne0 : goal.returns-then-number-ne0
 returns-then-number-ne0 c =
     let step : let n = c.lesser-n.result in let i = c.loop-i.i in let a = c.args in
     (0 < n) × (n ≤ 64) × (i + n ≤ a.many) × (4 * (i + n) ≤ length a.words.now) =
-        let h = c.loop-i-test.true in
+    let h = c.loop-i-test.true in
     let e = c.lesser-n.ensures in
     let w = c.requires.1 in
     (omega arith, omega arith, omega arith, omega arith) in
     let block : let l = c.loop-i in let a = c.args in
     fed_out c.feed_block-f.result c.feed_block-f.new.regs c.feed_block-f.new.aux
     ≡ batch_of l.fed l.regs l.aux (take c.lesser-n.result (drop l.i (unpacked 32 a.many a.words.now))) =
-        let words = c.args.words.now in
+    let words = c.args.words.now in
     c.feed_block-f.ensures
     ∙ ap (batch_of c.loop-i.fed c.loop-i.regs c.loop-i.aux)
     (ap (unpacked 32 c.lesser-n.result) (from_on (4 * c.loop-i.i) words)
     ∙ feeding.block_words c.loop-i.i c.lesser-n.result c.args.many words (λ i. (c.type_inv.words i).fits) c.requires.1 step.2) in
     let within : let a = c.args in c.loop-i.i + c.lesser-n.result ≤ length (unpacked 32 a.many a.words.now) =
-        let a = c.args in rw (length_unpacked 32 a.many a.words.now) step.2 in
+    let a = c.args in rw (length_unpacked 32 a.many a.words.now) step.2 in
     feeding.feeding_stop c.loop-i.invariant.3 c.lesser-n.result within _ block (λ z. c.if-number-ne0.true (c.number.ensures ∙ z))
 
 pub overflow_add-i : goal.overflow_add-i
 overflow_add-i c =
     let step : let n = c.lesser-n.result in let i = c.loop-i.i in let a = c.args in
     (0 < n) × (n ≤ 64) × (i + n ≤ a.many) × (4 * (i + n) ≤ length a.words.now) =
-        let h = c.loop-i-test.true in
+    let h = c.loop-i-test.true in
     let e = c.lesser-n.ensures in
     let w = c.requires.1 in
     (omega arith, omega arith, omega arith, omega arith) in
@@ -130,7 +131,7 @@ pub loop-i-smaller : goal.loop-i-smaller
 loop-i-smaller c =
     let step : let n = c.lesser-n.result in let i = c.loop-i.i in let a = c.args in
     (0 < n) × (n ≤ 64) × (i + n ≤ a.many) × (4 * (i + n) ≤ length a.words.now) =
-        let h = c.loop-i-test.true in
+    let h = c.loop-i-test.true in
     let e = c.lesser-n.ensures in
     let w = c.requires.1 in
     (omega arith, omega arith, omega arith, omega arith) in
@@ -140,27 +141,25 @@ pub loop-i-preserved : goal.loop-i-preserved
 loop-i-preserved c =
     let step : let n = c.lesser-n.result in let i = c.loop-i.i in let a = c.args in
     (0 < n) × (n ≤ 64) × (i + n ≤ a.many) × (4 * (i + n) ≤ length a.words.now) =
-        let h = c.loop-i-test.true in
+    let h = c.loop-i-test.true in
     let e = c.lesser-n.ensures in
     let w = c.requires.1 in
     (omega arith, omega arith, omega arith, omega arith) in
     let block : let l = c.loop-i in let a = c.args in
     fed_out c.feed_block-f.result c.feed_block-f.new.regs c.feed_block-f.new.aux
     ≡ batch_of l.fed l.regs l.aux (take c.lesser-n.result (drop l.i (unpacked 32 a.many a.words.now))) =
-        let words = c.args.words.now in
+    let words = c.args.words.now in
     c.feed_block-f.ensures
     ∙ ap (batch_of c.loop-i.fed c.loop-i.regs c.loop-i.aux)
     (ap (unpacked 32 c.lesser-n.result) (from_on (4 * c.loop-i.i) words)
     ∙ feeding.block_words c.loop-i.i c.lesser-n.result c.args.many words (λ i. (c.type_inv.words i).fits) c.requires.1 step.2) in
     let within : let a = c.args in c.loop-i.i + c.lesser-n.result ≤ length (unpacked 32 a.many a.words.now) =
-        let a = c.args in rw (length_unpacked 32 a.many a.words.now) step.2 in
-    (
-  c.feed_block-f.auto.regs ∙ c.loop-i.invariant.0,
-  c.feed_block-f.auto.aux ∙ c.loop-i.invariant.1,
-  c.feed_block-f.auto.scratch ∙ c.loop-i.invariant.2,
-  feeding.feeding_more c.loop-i.invariant.3 c.lesser-n.result within _ block (sym c.number.ensures ∙ c.if-number-ne0.false),
-
-)
+    let a = c.args in rw (length_unpacked 32 a.many a.words.now) step.2 in (
+      c.feed_block-f.auto.regs ∙ c.loop-i.invariant.0,
+      c.feed_block-f.auto.aux ∙ c.loop-i.invariant.1,
+      c.feed_block-f.auto.scratch ∙ c.loop-i.invariant.2,
+      feeding.feeding_more c.loop-i.invariant.3 c.lesser-n.result within _ block (sym c.number.ensures ∙ c.if-number-ne0.false),
+    )
 
 pub shape_of-regs : goal.shape_of-regs
 shape_of-regs c = c.loop-i.invariant.0

@@ -15,38 +15,39 @@ use Rattle.model.proofs.image.ListRungs.{preamble_long, short_words, empty_word,
 use Rattle.model.proofs.packing.ByteLists.{from_on}
 use Rattle.image_list.proofs.Counted.{count_small}
 use Rattle.image_list.proofs.check.Goals as goal
+
 -- the first zero word is the book's
 pub overflow_mul-many : goal.overflow_mul-many
 overflow_mul-many c =
     let is : c.args.c ≡ coupons_at c.args.image.now =
-        c.requires.is in
+    c.requires.is in
     let few : (c.args.c.count < 4294967296) × (c.args.c.words ≤ length c.args.image.now) =
-        let l = c.args.image.now in
+    let l = c.args.image.now in
     (subst (λ (k : Coupons). k.count < 4294967296) (sym is) (count_small l), subst (λ (k : Coupons). k.words ≤ length l) (sym is) (preamble_long l c.requires.passed).1) in
     omega (arith, few)
 
 pub overflow_add-from : goal.overflow_add-from
 overflow_add-from c =
     let is : c.args.c ≡ coupons_at c.args.image.now =
-        c.requires.is in
+    c.requires.is in
     let few : (c.args.c.count < 4294967296) × (c.args.c.words ≤ length c.args.image.now) =
-        let l = c.args.image.now in
+    let l = c.args.image.now in
     (subst (λ (k : Coupons). k.count < 4294967296) (sym is) (count_small l), subst (λ (k : Coupons). k.words ≤ length l) (sym is) (preamble_long l c.requires.passed).1) in
     omega (arith, few)
 
 pub returns-then-image-from : goal.returns-then-image-from
 returns-then-image-from c =
     let is : c.args.c ≡ coupons_at c.args.image.now =
-        c.requires.is in
+    c.requires.is in
     let l = c.args.image.now in
     short_words l _ (subst (λ (k : Coupons). length l < k.words + 4 * k.count) is c.if-image-from.true)
 
 pub overflow_cast-result : goal.overflow_cast-result
 overflow_cast-result c =
     let is : c.args.c ≡ coupons_at c.args.image.now =
-        c.requires.is in
+    c.requires.is in
     let few : (c.args.c.count < 4294967296) × (c.args.c.words ≤ length c.args.image.now) =
-        let l = c.args.image.now in
+    let l = c.args.image.now in
     (subst (λ (k : Coupons). k.count < 4294967296) (sym is) (count_small l), subst (λ (k : Coupons). k.words ≤ length l) (sym is) (preamble_long l c.requires.passed).1) in
     let k = c.args.c in
     let h : c.first_empty-empty.result ≤ k.count = rw c.first_empty-empty.ensures (first_le _ k.count) in
@@ -56,11 +57,11 @@ pub returns-then-empty-many : goal.returns-then-empty-many
 unfolding empty_in
 returns-then-empty-many c =
     let is : c.args.c ≡ coupons_at c.args.image.now =
-        c.requires.is in
+    c.requires.is in
     let whole : let l = c.args.image.now in (layout_in l).words + 4 * coupon_count l ≤ length l =
-        let l = c.args.image.now in subst (λ (k : Coupons). k.words + 4 * k.count ≤ length l) is c.if-image-from.false in
+    let l = c.args.image.now in subst (λ (k : Coupons). k.words + 4 * k.count ≤ length l) is c.if-image-from.false in
     let empty_is : c.first_empty-empty.result ≡ empty_in c.args.image.now =
-        let k = c.args.c in
+    let k = c.args.c in
     let l = c.args.image.now in
     c.first_empty-empty.ensures
     ∙ ap (λ (x : List ℕ). first (λ i. eqb (get_or (unpacked 32 k.count x) i 0) 0) k.count) (from_on k.words l)
@@ -75,32 +76,32 @@ pub returns-then-image-lg_k : goal.returns-then-image-lg_k
 unfolding empty_in
 returns-then-image-lg_k c =
     let is : c.args.c ≡ coupons_at c.args.image.now =
-        c.requires.is in
+    c.requires.is in
     let whole : let l = c.args.image.now in (layout_in l).words + 4 * coupon_count l ≤ length l =
-        let l = c.args.image.now in subst (λ (k : Coupons). k.words + 4 * k.count ≤ length l) is c.if-image-from.false in
+    let l = c.args.image.now in subst (λ (k : Coupons). k.words + 4 * k.count ≤ length l) is c.if-image-from.false in
     let empty_is : c.first_empty-empty.result ≡ empty_in c.args.image.now =
-        let k = c.args.c in
+    let k = c.args.c in
     let l = c.args.image.now in
     c.first_empty-empty.ensures
     ∙ ap (λ (x : List ℕ). first (λ i. eqb (get_or (unpacked 32 k.count x) i 0) 0) k.count) (from_on k.words l)
     ∙ ap (λ (k : Coupons). first (λ i. eqb (get_or (unpacked 32 k.count (drop k.words l)) i 0) 0) k.count) is in
     let none : let l = c.args.image.now in empty_in l ≡ coupon_count l =
-        sym empty_is ∙ c.if-empty-many.false ∙ ap (λ (k : Coupons). k.count) is in
+    sym empty_is ∙ c.if-empty-many.false ∙ ap (λ (k : Coupons). k.count) is in
     too_fine _ _ whole none c.if-image-lg_k.true
 
 pub returns : goal.returns
 unfolding empty_in
 returns c =
     let is : c.args.c ≡ coupons_at c.args.image.now =
-        c.requires.is in
+    c.requires.is in
     let whole : let l = c.args.image.now in (layout_in l).words + 4 * coupon_count l ≤ length l =
-        let l = c.args.image.now in subst (λ (k : Coupons). k.words + 4 * k.count ≤ length l) is c.if-image-from.false in
+    let l = c.args.image.now in subst (λ (k : Coupons). k.words + 4 * k.count ≤ length l) is c.if-image-from.false in
     let empty_is : c.first_empty-empty.result ≡ empty_in c.args.image.now =
-        let k = c.args.c in
+    let k = c.args.c in
     let l = c.args.image.now in
     c.first_empty-empty.ensures
     ∙ ap (λ (x : List ℕ). first (λ i. eqb (get_or (unpacked 32 k.count x) i 0) 0) k.count) (from_on k.words l)
     ∙ ap (λ (k : Coupons). first (λ i. eqb (get_or (unpacked 32 k.count (drop k.words l)) i 0) 0) k.count) is in
     let none : let l = c.args.image.now in empty_in l ≡ coupon_count l =
-        sym empty_is ∙ c.if-empty-many.false ∙ ap (λ (k : Coupons). k.count) is in
+    sym empty_is ∙ c.if-empty-many.false ∙ ap (λ (k : Coupons). k.count) is in
     coupons_right _ _ whole none c.if-image-lg_k.false

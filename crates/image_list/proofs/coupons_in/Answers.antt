@@ -19,11 +19,11 @@ bounds-image-0 c = omega (arith, (preamble_long _ c.requires).0)
 pub bounds-image-at : goal.bounds-image-at
 bounds-image-at c =
     let is : c.layout_of-y.result ≡ layout_as (layout_in c.args.image.now) =
-        c.layout_of-y.ensures in
+    c.layout_of-y.ensures in
     let long : let l = c.args.image.now in (layout_in l).words ≤ length l =
-        (preamble_long _ c.requires).1 in
+    (preamble_long _ c.requires).1 in
     let byte : (layout_in c.args.image.now).bits ≡ 8 =
-        ap (λ (y : Layout). y.bits) (sym is) ∙ c.if-y-eq8.true in
+    ap (λ (y : Layout). y.bits) (sym is) ∙ c.if-y-eq8.true in
     rw is (byte_inside c.args.image.now byte long)
 
 pub overflow_cast-result : goal.overflow_cast-result
@@ -32,9 +32,9 @@ overflow_cast-result c = omega (arith, (c.type_inv.image c.layout_of-y.result.co
 pub returns-then-y-eq8 : goal.returns-then-y-eq8
 returns-then-y-eq8 c =
     let is : c.layout_of-y.result ≡ layout_as (layout_in c.args.image.now) =
-        c.layout_of-y.ensures in
+    c.layout_of-y.ensures in
     let byte : (layout_in c.args.image.now).bits ≡ 8 =
-        ap (λ (y : Layout). y.bits) (sym is) ∙ c.if-y-eq8.true in
+    ap (λ (y : Layout). y.bits) (sym is) ∙ c.if-y-eq8.true in
     let l = c.args.image.now in
     let count : get_or l c.layout_of-y.result.count 0 ≡ coupon_count l = ap (λ (y : Layout). get_or l y.count 0) is ∙ byte_count l (λ i. (c.type_inv.image i).fits) byte in
     λ i. record { words = (is i).words; count = count i }
@@ -42,37 +42,37 @@ returns-then-y-eq8 c =
 pub slice_bounds-word_at-count : goal.slice_bounds-word_at-count
 slice_bounds-word_at-count c =
     let is : c.layout_of-y.result ≡ layout_as (layout_in c.args.image.now) =
-        c.layout_of-y.ensures in
+    c.layout_of-y.ensures in
     let long : let l = c.args.image.now in (layout_in l).words ≤ length l =
-        (preamble_long _ c.requires).1 in
+    (preamble_long _ c.requires).1 in
     let word : (layout_in c.args.image.now).bits ≡ 8 → ⊥ =
-        λ e. c.if-y-eq8.false (ap (λ (y : Layout). y.bits) is ∙ e) in
+    λ e. c.if-y-eq8.false (ap (λ (y : Layout). y.bits) is ∙ e) in
     let inside : c.layout_of-y.result.count + 4 ≤ length c.args.image.now =
-        rw is (word_inside c.args.image.now word long) in
+    rw is (word_inside c.args.image.now word long) in
     omega (arith, inside)
 
 pub slice_bounds-word_at-start : goal.slice_bounds-word_at-start
 slice_bounds-word_at-start c =
     let is : c.layout_of-y.result ≡ layout_as (layout_in c.args.image.now) =
-        c.layout_of-y.ensures in
+    c.layout_of-y.ensures in
     let long : let l = c.args.image.now in (layout_in l).words ≤ length l =
-        (preamble_long _ c.requires).1 in
+    (preamble_long _ c.requires).1 in
     let word : (layout_in c.args.image.now).bits ≡ 8 → ⊥ =
-        λ e. c.if-y-eq8.false (ap (λ (y : Layout). y.bits) is ∙ e) in
+    λ e. c.if-y-eq8.false (ap (λ (y : Layout). y.bits) is ∙ e) in
     let inside : c.layout_of-y.result.count + 4 ≤ length c.args.image.now =
-        rw is (word_inside c.args.image.now word long) in
+    rw is (word_inside c.args.image.now word long) in
     omega (arith, inside)
 
 pub word_at-count-requires : goal.word_at-count-requires
 word_at-count-requires c =
     let is : c.layout_of-y.result ≡ layout_as (layout_in c.args.image.now) =
-        c.layout_of-y.ensures in
+    c.layout_of-y.ensures in
     let long : let l = c.args.image.now in (layout_in l).words ≤ length l =
-        (preamble_long _ c.requires).1 in
+    (preamble_long _ c.requires).1 in
     let word : (layout_in c.args.image.now).bits ≡ 8 → ⊥ =
-        λ e. c.if-y-eq8.false (ap (λ (y : Layout). y.bits) is ∙ e) in
+    λ e. c.if-y-eq8.false (ap (λ (y : Layout). y.bits) is ∙ e) in
     let inside : c.layout_of-y.result.count + 4 ≤ length c.args.image.now =
-        rw is (word_inside c.args.image.now word long) in
+    rw is (word_inside c.args.image.now word long) in
     let l = c.args.image.now in
     let at = c.layout_of-y.result.count in
     omega (arith, inside, ap length (from_on at l), length-drop at l)
@@ -80,9 +80,9 @@ word_at-count-requires c =
 pub returns : goal.returns
 returns c =
     let is : c.layout_of-y.result ≡ layout_as (layout_in c.args.image.now) =
-        c.layout_of-y.ensures in
+    c.layout_of-y.ensures in
     let word : (layout_in c.args.image.now).bits ≡ 8 → ⊥ =
-        λ e. c.if-y-eq8.false (ap (λ (y : Layout). y.bits) is ∙ e) in
+    λ e. c.if-y-eq8.false (ap (λ (y : Layout). y.bits) is ∙ e) in
     let l = c.args.image.now in
     let at = c.layout_of-y.result.count in
     let count : c.word_at-count.result ≡ coupon_count l = c.word_at-count.ensures ∙ ap (λ (x : List ℕ). slot_at 32 x 0) (from_on at l) ∙ ap (λ (y : Layout). slot_at 32 (drop y.count l) 0) is ∙ word_count_lem l word in

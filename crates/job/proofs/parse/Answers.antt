@@ -20,40 +20,40 @@ pub returns-then-listed-eq0 : goal.returns-then-listed-eq0
 returns-then-listed-eq0 c =
     let listing : let r = c.lines_in-listed.result in
     Listing c.args.job.now c.size_in-lg_k.result c.size_end-first.result r.files r.end =
-        record { size = c.size_in-lg_k.ensures; some = c.if-lg_k-eq0.false; starts = c.size_end-first.ensures; listed = c.lines_in-listed.ensures } in
+    record { size = c.size_in-lg_k.ensures; some = c.if-lg_k-eq0.false; starts = c.size_end-first.ensures; listed = c.lines_in-listed.ensures } in
     c.no_job-then-listed-eq0.ensures ∙ no_ins listing c.if-listed-eq0.true
 
 pub returns-then-n-eq0 : goal.returns-then-n-eq0
 returns-then-n-eq0 c =
     let listing : let r = c.lines_in-listed.result in
     Listing c.args.job.now c.size_in-lg_k.result c.size_end-first.result r.files r.end =
-        record { size = c.size_in-lg_k.ensures; some = c.if-lg_k-eq0.false; starts = c.size_end-first.ensures; listed = c.lines_in-listed.ensures } in
+    record { size = c.size_in-lg_k.ensures; some = c.if-lg_k-eq0.false; starts = c.size_end-first.ensures; listed = c.lines_in-listed.ensures } in
     c.no_job-then-n-eq0.ensures ∙ no_out listing c.path_in-n.ensures c.if-n-eq0.true
 
 pub overflow_sub-job : goal.overflow_sub-job
 overflow_sub-job c =
     let listing : let r = c.lines_in-listed.result in
     Listing c.args.job.now c.size_in-lg_k.result c.size_end-first.result r.files r.end =
-        record { size = c.size_in-lg_k.ensures; some = c.if-lg_k-eq0.false; starts = c.size_end-first.ensures; listed = c.lines_in-listed.ensures } in
+    record { size = c.size_in-lg_k.ensures; some = c.if-lg_k-eq0.false; starts = c.size_end-first.ensures; listed = c.lines_in-listed.ensures } in
     last_room listing
 
 pub overflow_add-n : goal.overflow_add-n
 overflow_add-n c =
     let listing : let r = c.lines_in-listed.result in
     Listing c.args.job.now c.size_in-lg_k.result c.size_end-first.result r.files r.end =
-        record { size = c.size_in-lg_k.ensures; some = c.if-lg_k-eq0.false; starts = c.size_end-first.ensures; listed = c.lines_in-listed.ensures } in
+    record { size = c.size_in-lg_k.ensures; some = c.if-lg_k-eq0.false; starts = c.size_end-first.ensures; listed = c.lines_in-listed.ensures } in
     omega (arith, path_fits listing c.path_in-n.ensures c.if-n-eq0.false)
 
 pub returns-then-job-last : goal.returns-then-job-last
 returns-then-job-last c =
     let listing : let r = c.lines_in-listed.result in
     Listing c.args.job.now c.size_in-lg_k.result c.size_end-first.result r.files r.end =
-        record { size = c.size_in-lg_k.ensures; some = c.if-lg_k-eq0.false; starts = c.size_end-first.ensures; listed = c.lines_in-listed.ensures } in
+    record { size = c.size_in-lg_k.ensures; some = c.if-lg_k-eq0.false; starts = c.size_end-first.ensures; listed = c.lines_in-listed.ensures } in
     c.no_job-then-job-last.ensures ∙ more_behind listing c.path_in-n.ensures c.if-job-last.true
 
 pub returns : goal.returns
 returns c =
     let listing : let r = c.lines_in-listed.result in
     Listing c.args.job.now c.size_in-lg_k.result c.size_end-first.result r.files r.end =
-        record { size = c.size_in-lg_k.ensures; some = c.if-lg_k-eq0.false; starts = c.size_end-first.ensures; listed = c.lines_in-listed.ensures } in
+    record { size = c.size_in-lg_k.ensures; some = c.if-lg_k-eq0.false; starts = c.size_end-first.ensures; listed = c.lines_in-listed.ensures } in
     found listing c.path_in-n.ensures c.if-job-gt4096.false c.if-listed-eq0.false c.if-n-eq0.false c.if-job-last.false

@@ -4,7 +4,6 @@ use mathlib.Core.Bool.{true}
 use Prim.Native.Nat.{◌-◌, ◌≤◌}
 use native.Mathlib.Omega.{arith}
 use lib.ListN.{length, drop}
-use borrow.Author.Tests.{not-true, not-false}
 use Rattle.text.specs.Text.{stands_at}
 use Rattle.job.proofs.Walk.{key_room, span_room, path_unkeyed, path_long, path_cut, path_unended, path_found}
 use Rattle.job.proofs.path_in.Goals as goal
@@ -17,9 +16,9 @@ returns-then-not-found c =
 pub overflow_add-from : goal.overflow_add-from
 overflow_add-from c =
     let keyed : let a = c.args in stands_at a.key.now (drop a.at a.job.now) ≡ true =
-        sym c.stands-found.ensures ∙ c.if-not-found.false in
+    sym c.stands-found.ensures ∙ c.if-not-found.false in
     let room : let a = c.args in length a.key.now ≤ length a.job.now - a.at =
-        let a = c.args in key_room _ a.job.now a.at keyed in
+    let a = c.args in key_room _ a.job.now a.at keyed in
     omega (arith, room)
 
 pub returns-then-n-gt200 : goal.returns-then-n-gt200
@@ -28,9 +27,9 @@ returns-then-n-gt200 c = path_long _ _ _ _ c.span-n.ensures c.if-n-gt200.true
 pub overflow_add-end : goal.overflow_add-end
 overflow_add-end c =
     let keyed : let a = c.args in stands_at a.key.now (drop a.at a.job.now) ≡ true =
-        sym c.stands-found.ensures ∙ c.if-not-found.false in
+    sym c.stands-found.ensures ∙ c.if-not-found.false in
     let room : let a = c.args in length a.key.now ≤ length a.job.now - a.at =
-        let a = c.args in key_room _ a.job.now a.at keyed in
+    let a = c.args in key_room _ a.job.now a.at keyed in
     let a = c.args in
     omega (arith, room, span_room a.key.now a.job.now a.at _ c.span-n.ensures)
 
@@ -43,5 +42,5 @@ returns-then-job-end-ne10 c = path_unended _ _ _ _ c.span-n.ensures c.if-job-end
 pub returns : goal.returns
 returns c =
     let keyed : let a = c.args in stands_at a.key.now (drop a.at a.job.now) ≡ true =
-        sym c.stands-found.ensures ∙ c.if-not-found.false in
+    sym c.stands-found.ensures ∙ c.if-not-found.false in
     path_found _ _ _ _ c.span-n.ensures keyed c.if-n-gt200.false c.if-job-end-ne10.false

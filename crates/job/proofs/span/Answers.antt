@@ -1,9 +1,7 @@
 -- `job::span` meets its contract: what is left counts on from i. Assumes nothing.
 use mathlib.Core.Path.{sym, ◌∙◌}
-use Prim.Native.Nat.{◌-◌}
 use native.Mathlib.Omega.{arith}
 use borrow.Author.Rules.{rules}
-use borrow.Author.Tests.{not-true, not-false}
 use Rattle.job.proofs.Lines.{span_on, span_off, span_past}
 use Rattle.job.proofs.span.Goals as goal
 

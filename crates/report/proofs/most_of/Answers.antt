@@ -1,6 +1,5 @@
 -- `report::most_of` meets its contract. The invariant: the largest is the larger of what was seen and what is left. Assumes nothing.
 use mathlib.Core.Path.{sym, ◌∙◌}
-use Prim.Native.Nat.{◌-◌}
 use native.Mathlib.Omega.{arith}
 use borrow.Author.Rules.{rules}
 use Rattle.report.proofs.Largest.{most_next, most_end}

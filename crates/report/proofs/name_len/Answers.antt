@@ -1,6 +1,5 @@
 -- `report::name_len` meets its contract: no space stands before n. Assumes nothing.
 use mathlib.Core.Path.{refl}
-use Prim.Native.Nat.{◌-◌}
 use native.Mathlib.Omega.{arith}
 use borrow.Author.Rules.{rules}
 use Rattle.report.proofs.Names.{trim_on, trim_off, trim_end}

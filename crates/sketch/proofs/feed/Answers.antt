@@ -21,12 +21,12 @@ pub feed-requires : goal.feed-requires
 feed-requires c =
     let passed : let a = c.args in
     check_no (scratch_fits a.sketch.kind (length a.aux.now) (length a.scratch.now)) a.sketch a.regs.now a.aux.now ≡ 0 =
-        sym c.check-answer.ensures ∙ sym c.number.ensures ∙ c.if-number-ne0.false in
+    sym c.check-answer.ensures ∙ sym c.number.ensures ∙ c.if-number-ne0.false in
     ready _ _ _ _ passed (λ i. (c.slice_known-1.given i).fits)
 
 pub returns : goal.returns
 returns c =
     let passed : let a = c.args in
     check_no (scratch_fits a.sketch.kind (length a.aux.now) (length a.scratch.now)) a.sketch a.regs.now a.aux.now ≡ 0 =
-        sym c.check-answer.ensures ∙ sym c.number.ensures ∙ c.if-number-ne0.false in
+    sym c.check-answer.ensures ∙ sym c.number.ensures ∙ c.if-number-ne0.false in
     c.feed.ensures ∙ sym (feed_is _ _ _ _ _ passed)

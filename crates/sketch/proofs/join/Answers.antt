@@ -9,7 +9,7 @@ use Rattle.sketch.proofs.join.Goals as goal
 pub returns-then-target-regs : goal.returns-then-target-regs
 returns-then-target-regs c =
     let reads : let a = c.args in registers a.s a.regs.now a.aux.now ≡ a.regs.now =
-        bytes_8 _ _ _ c.if-s-ne8.false c.requires.good.shaped (λ i. (c.type_inv.regs i).fits) in
+    bytes_8 _ _ _ c.if-s-ne8.false c.requires.good.shaped (λ i. (c.type_inv.regs i).fits) in
     c.merge_array_same_lgk.ensures ∙ ap (joined _ _) (sym reads)
 
 pub merge_array_with_downsample-requires : goal.merge_array_with_downsample-requires
@@ -18,5 +18,5 @@ merge_array_with_downsample-requires c = source_8 _ _ _ _ c.requires c.if-s-ne8.
 pub returns : goal.returns
 returns c =
     let reads : let a = c.args in registers a.s a.regs.now a.aux.now ≡ a.regs.now =
-        bytes_8 _ _ _ c.if-s-ne8.false c.requires.good.shaped (λ i. (c.type_inv.regs i).fits) in
+    bytes_8 _ _ _ c.if-s-ne8.false c.requires.good.shaped (λ i. (c.type_inv.regs i).fits) in
     c.merge_array_with_downsample.ensures ∙ ap (joined _ _) (sym reads)

@@ -13,11 +13,11 @@ returns-then-number-ne0 c = unpack_no _ _ _ _ c.is_count-fits.ensures c.check-an
 pub unpack_good-requires : goal.unpack_good-requires
 unpack_good-requires c =
     let passed : let a = c.args in check_no c.is_count-fits.result a.sketch a.regs.now a.aux.now ≡ 0 =
-        sym c.check-answer.ensures ∙ sym c.number.ensures ∙ c.if-number-ne0.false in
+    sym c.check-answer.ensures ∙ sym c.number.ensures ∙ c.if-number-ne0.false in
     record { good = check_ok _ _ _ _ (λ i. (c.type_inv.regs i).fits) passed; long = eqb-true _ _ (sym c.is_count-fits.ensures ∙ ((check_says _ _ _ _).0 passed).1.0) }
 
 pub returns : goal.returns
 returns c =
     let passed : let a = c.args in check_no c.is_count-fits.result a.sketch a.regs.now a.aux.now ≡ 0 =
-        sym c.check-answer.ensures ∙ sym c.number.ensures ∙ c.if-number-ne0.false in
+    sym c.check-answer.ensures ∙ sym c.number.ensures ∙ c.if-number-ne0.false in
     unpack_ok _ _ _ _ c.is_count-fits.ensures passed c.unpack_good.ensures

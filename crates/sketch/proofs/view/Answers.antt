@@ -8,7 +8,7 @@ pub returns-then-number-ne0 : goal.returns-then-number-ne0
 unfolding view_of
 returns-then-number-ne0 c =
     let refused : eight_no c.args.sketch c.args.regs.now ≡ 0 → ⊥ =
-        λ e. c.if-number-ne0.true (c.number.ensures ∙ c.check_eight-answer.ensures ∙ e) in
+    λ e. c.if-number-ne0.true (c.number.ensures ∙ c.check_eight-answer.ensures ∙ e) in
     (simp (ne_eqb _ 0 refused), λ e. absurd (refused e))
 
 pub returns : goal.returns

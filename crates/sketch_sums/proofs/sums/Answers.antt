@@ -16,21 +16,21 @@ returns-then-answer-ne0 c = sums_no _ _ _ (c.number-answer.ensures ∙ c.check.e
 pub counts-requires : goal.counts-requires
 counts-requires c =
     let passed : let a = c.args in check_no true a.sketch a.regs.now a.aux.now ≡ 0 =
-        sym c.check.ensures ∙ sym c.number-answer.ensures ∙ c.if-answer-ne0.false in
+    sym c.check.ensures ∙ sym c.number-answer.ensures ∙ c.if-answer-ne0.false in
     let good : let a = c.args in Good a.sketch a.regs.now a.aux.now =
-        check_ok _ _ _ _ (λ i. (c.type_inv.regs i).fits) passed in
+    check_ok _ _ _ _ (λ i. (c.type_inv.regs i).fits) passed in
     good
 
 pub from_counts-requires : goal.from_counts-requires
 from_counts-requires c =
     let passed : let a = c.args in check_no true a.sketch a.regs.now a.aux.now ≡ 0 =
-        sym c.check.ensures ∙ sym c.number-answer.ensures ∙ c.if-answer-ne0.false in
+    sym c.check.ensures ∙ sym c.number-answer.ensures ∙ c.if-answer-ne0.false in
     let good : let a = c.args in Good a.sketch a.regs.now a.aux.now =
-        check_ok _ _ _ _ (λ i. (c.type_inv.regs i).fits) passed in
+    check_ok _ _ _ _ (λ i. (c.type_inv.regs i).fits) passed in
     good_few _ _ _ good c.counts.ensures
 
 pub returns : goal.returns
 returns c =
     let passed : let a = c.args in check_no true a.sketch a.regs.now a.aux.now ≡ 0 =
-        sym c.check.ensures ∙ sym c.number-answer.ensures ∙ c.if-answer-ne0.false in
+    sym c.check.ensures ∙ sym c.number-answer.ensures ∙ c.if-answer-ne0.false in
     sums_ok _ _ _ passed (c.from_counts.ensures _ c.counts.ensures)

@@ -1,6 +1,5 @@
 -- `text::stands` meets its contract. The invariant: what is left of p stands where what is left of s begins, if p stands at all. Assumes nothing.
 use mathlib.Core.Path.{sym, ◌∙◌}
-use Prim.Native.Nat.{◌-◌}
 use native.Mathlib.Nat.{add-zero}
 use native.Mathlib.Omega.{arith}
 use lib.ListN.{length-drop}
