@@ -3,7 +3,7 @@
 /// Makes the area at least twice as long. Words past the exception table have to be zero, so the sketch in it stays in good order.
 ///
 /// It starts at an eighth of the register bytes, which holds the exceptions of hashed input many times over, and ends at 2k words, which
-/// are always enough: that is proved (`twice-is-room`).
+/// are always enough: that is proved (`twice_is_room`).
 pub fn grow(aux: &mut Vec<u32>, k: usize) {
     assert!(aux.len() < 2 * k, "no room in 2k words");
     let words = (2 * aux.len()).max(k / 64).max(16);
