@@ -42,7 +42,8 @@ returns-then-not-placed c =
 
 pub settle-settled-requires : goal.settle-settled-requires
 settle-settled-requires c =
-    updating.holding c.requires _ _ c.value-value.ensures _ c.home-slot.ensures _ c.get_raw-raw.ensures _ c.old_value-old.ensures c.if-value-old.false _ _ _ _ c.place-placed.ensures (not-false _ c.if-not-placed.false) _ (omega (arith, c.requires.spare, c.place-placed.auto.aux, c.place-placed.auto.scratch))
+    updating.holding c.requires _ _ c.value-value.ensures _ c.home-slot.ensures _ c.get_raw-raw.ensures _ c.old_value-old.ensures c.if-value-old.false _ _ _ _ c.place-placed.ensures (not-false _ c.if-not-placed.false)
+    _ (omega (arith, c.requires.spare, c.place-placed.auto.aux, c.place-placed.auto.scratch))
 
 pub returns : goal.returns
 returns c =

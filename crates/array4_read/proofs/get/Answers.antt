@@ -7,6 +7,12 @@ use Rattle.model.specs.Sketch.{registers}
 use Rattle.aux_map.specs.declared.Got.TheVariants.{Value}
 use Rattle.array4_read.proofs.Held as held
 use Rattle.array4_read.proofs.get.Goals as goal
+use Rattle.array4_read.proofs.get.Goals.{After-get}
+
+-- what the search yields, in either arm
+yields : (c : After-get) → c.get.result ≡ Value (get_or (registers c.args.s c.args.regs.now c.args.aux.now) c.args.slot 0)
+yields c =
+    c.get.ensures ∙ held.high_get _ _ _ c.requires.four c.requires.good _ _ c.requires.inside c.get_raw-raw.ensures c.if-raw-lt15.false _ c.table_len-size.ensures
 
 pub get_raw-raw-requires : goal.get_raw-raw-requires
 get_raw-raw-requires c =
@@ -32,17 +38,12 @@ pub get-requires : goal.get-requires
 get-requires c =
     held.room _ _ _ c.requires.four c.requires.good _ _ c.requires.inside c.get_raw-raw.ensures c.if-raw-lt15.false _ c.table_len-size.ensures
 
--- what the search yields, in either arm
 pub returns-in-Value : goal.returns-in-Value
 returns-in-Value c =
-    let yields : c.get.result ≡ Value (get_or (registers c.args.s c.args.regs.now c.args.aux.now) c.args.slot 0) =
-    c.get.ensures ∙ held.high_get _ _ _ c.requires.four c.requires.good _ _ c.requires.inside c.get_raw-raw.ensures c.if-raw-lt15.false _ c.table_len-size.ensures in
-    let told = sym c.in-Value.is ∙ yields in cc
+    let told = sym c.in-Value.is ∙ (yields (goal.at.returns-in-Value c).After-get) in cc
 
 pub returns-in-Missing : goal.returns-in-Missing
 returns-in-Missing c =
-    let yields : c.get.result ≡ Value (get_or (registers c.args.s c.args.regs.now c.args.aux.now) c.args.slot 0) =
-    c.get.ensures ∙ held.high_get _ _ _ c.requires.four c.requires.good _ _ c.requires.inside c.get_raw-raw.ensures c.if-raw-lt15.false _ c.table_len-size.ensures in
-    let told = sym c.in-Missing.is ∙ yields in
+    let told = sym c.in-Missing.is ∙ (yields (goal.at.returns-in-Missing c).After-get) in
     let z : ◌≡◌ {A = ℕ} 0 1 = cc in
     absurd (omega arith)

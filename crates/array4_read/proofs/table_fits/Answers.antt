@@ -3,6 +3,12 @@ use Rattle.model.specs.Table.{base_for}
 use Rattle.aux_table.specs.Check.{Ordered}
 use Rattle.array4_read.proofs.Passing as passing
 use Rattle.array4_read.proofs.table_fits.Goals as goal
+use Rattle.array4_read.proofs.table_fits.Goals.{Else-not-check}
+
+-- what the check of the table's order showed
+ordered : (c : Else-not-check) → Ordered (base_for c.args.s.lg_k) c.args.s.aux_count c.args.aux.now
+ordered c =
+    rw (← c.base_for-base.ensures) (c.check.ensures.0 c.if-not-check.false)
 
 pub returns-then-tokens-s : goal.returns-then-tokens-s
 returns-then-tokens-s c =
@@ -15,18 +21,13 @@ pub returns-then-not-check : goal.returns-then-not-check
 returns-then-not-check c =
     passing.refused _ _ c.requires _ (λ t. c.check.ensures.1 c.if-not-check.true (rw c.base_for-base.ensures (passing.asks_ordered _ _ c.requires _ t)))
 
--- what the check of the table's order showed
 pub slice_bounds-words_fit-end : goal.slice_bounds-words_fit-end
 slice_bounds-words_fit-end c =
-    let ordered : Ordered (base_for c.args.s.lg_k) c.args.s.aux_count c.args.aux.now =
-    rw (← c.base_for-base.ensures) (c.check.ensures.0 c.if-not-check.false) in
-    passing.part _ _ c.requires _ ordered _ c.table_len-size.ensures
+    passing.part _ _ c.requires _ (ordered (goal.at.slice_bounds-words_fit-end c).Else-not-check) _ c.table_len-size.ensures
 
 pub words_fit-requires : goal.words_fit-requires
 words_fit-requires c = passing.few _ _ c.requires
 
 pub returns : goal.returns
 returns c =
-    let ordered : Ordered (base_for c.args.s.lg_k) c.args.s.aux_count c.args.aux.now =
-    rw (← c.base_for-base.ensures) (c.check.ensures.0 c.if-not-check.false) in
-    passing.answered _ _ c.requires _ c.if-tokens-s.false ordered _ c.table_len-size.ensures _ c.words_fit.ensures
+    passing.answered _ _ c.requires _ c.if-tokens-s.false (ordered (goal.at.returns c).Else-not-check) _ c.table_len-size.ensures _ c.words_fit.ensures

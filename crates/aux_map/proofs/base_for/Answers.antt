@@ -7,17 +7,18 @@ use lib.Pow.{pow-lt}
 use Rattle.model.specs.Table.{base_for}
 use Rattle.aux_map.proofs.Bases.{exponent_most}
 use Rattle.aux_map.proofs.base_for.Goals as goal
+use Rattle.aux_map.proofs.base_for.Goals.{After-lg_aux_arr_ints-e}
+
+small : (c : After-lg_aux_arr_ints-e) → c.lg_aux_arr_ints-e.result ≤ 18
+small c =
+    omega (arith, c.lg_aux_arr_ints-e.ensures, exponent_most _ c.requires.below)
 
 pub overflow_shl-result : goal.overflow_shl-result
 overflow_shl-result c =
-    let small : c.lg_aux_arr_ints-e.result ≤ 18 =
-    omega (arith, c.lg_aux_arr_ints-e.ensures, exponent_most _ c.requires.below) in
-    omega (arith, small)
+    omega (arith, small c)
 
 pub returns : goal.returns
 unfolding base_for
 returns c =
-    let small : c.lg_aux_arr_ints-e.result ≤ 18 =
-    omega (arith, c.lg_aux_arr_ints-e.ensures, exponent_most _ c.requires.below) in
-    let below : c.lg_aux_arr_ints-e.result < 64 = omega (arith, small) in
+    let below : c.lg_aux_arr_ints-e.result < 64 = omega (arith, small c) in
     ap (λ (x : ℕ). x % 2 ^ 64) (one-mul (2 ^ c.lg_aux_arr_ints-e.result)) ∙ mod-eq_of_lt (pow-lt below) ∙ ap (λ (e : ℕ). 2 ^ e) c.lg_aux_arr_ints-e.ensures

@@ -8,18 +8,19 @@ use Rattle.model.specs.Table.{word_at}
 use Rattle.model.proofs.table.Search.{place_lt}
 use Rattle.aux_map.specs.Search.{finds}
 use Rattle.aux_map.proofs.find.Goals as goal
+use Rattle.aux_map.proofs.find.Goals.{After-probe-at}
+
+inside : (c : After-probe-at) → c.probe-at.result < length c.args.table.now
+inside c =
+    subst (λ (p : ℕ). p < length c.args.table.now) (sym c.probe-at.ensures) (place_lt c.args.table.now c.args.slot c.requires)
 
 pub offset_bounds-table-at : goal.offset_bounds-table-at
 offset_bounds-table-at c =
-    let inside : c.probe-at.result < length c.args.table.now =
-    subst (λ (p : ℕ). p < length c.args.table.now) (sym c.probe-at.ensures) (place_lt c.args.table.now c.args.slot c.requires) in
-    omega (arith, inside)
+    omega (arith, inside c)
 
 pub bounds-table-at : goal.bounds-table-at
 bounds-table-at c =
-    let inside : c.probe-at.result < length c.args.table.now =
-    subst (λ (p : ℕ). p < length c.args.table.now) (sym c.probe-at.ensures) (place_lt c.args.table.now c.args.slot c.requires) in
-    inside
+    inside (goal.at.bounds-table-at c).After-probe-at
 
 pub returns-then-table-at-eq0 : goal.returns-then-table-at-eq0
 unfolding finds word_at

@@ -12,6 +12,7 @@ use Rattle.model.specs.Table.{Room, stops, stride, steps_from, place_from, place
 use Rattle.model.proofs.table.Search.{size_pos, stride_odd, onward, onward_place, stopped, stops_empty, stops_slot, stops_not}
 use Rattle.aux_map.specs.Sizes.{Power}
 use Rattle.aux_map.proofs.probe.Goals as goal
+use Rattle.aux_map.proofs.probe.Goals.{After-quotient}
 
 module _ (t : List ℕ) (s : ℕ) (room : Room t) where
   power : Power (length t)
@@ -42,20 +43,20 @@ module _ (t : List ℕ) (s : ℕ) (room : Room t) where
       )
 
 -- the quotient is no larger than the slot
+below : (c : After-quotient) → c.quotient.result < 2 ^ 32
+below c =
+    omega (arith, c.quotient.ensures, div-le_self c.args.slot (length c.args.table.now))
+
 pub quotient-requires : goal.quotient-requires
 quotient-requires c = power _ c.args.slot c.requires
 
 pub overflow_mul-step : goal.overflow_mul-step
 overflow_mul-step c =
-    let below : c.quotient.result < 2 ^ 32 =
-    omega (arith, c.quotient.ensures, div-le_self c.args.slot (length c.args.table.now)) in
-    omega (arith, below)
+    omega (arith, below c)
 
 pub overflow_add-step : goal.overflow_add-step
 overflow_add-step c =
-    let below : c.quotient.result < 2 ^ 32 =
-    omega (arith, c.quotient.ensures, div-le_self c.args.slot (length c.args.table.now)) in
-    omega (arith, below)
+    omega (arith, below c)
 
 pub wrap-at-requires : goal.wrap-at-requires
 wrap-at-requires c = power _ c.args.slot c.requires
@@ -65,9 +66,7 @@ loop-w-init c = begins _ _ c.requires _ c.wrap-at.ensures
 
 pub overflow_add-at : goal.overflow_add-at
 overflow_add-at c =
-    let below : c.quotient.result < 2 ^ 32 =
-    omega (arith, c.quotient.ensures, div-le_self c.args.slot (length c.args.table.now)) in
-    omega (arith, below, c.loop-w.invariant.0)
+    omega (arith, below (goal.at.overflow_add-at c).After-quotient, c.loop-w.invariant.0)
 
 pub wrap-at-requires-in-loop-w : goal.wrap-at-requires-in-loop-w
 wrap-at-requires-in-loop-w c = power _ c.args.slot c.requires

@@ -8,6 +8,7 @@ use Rattle.io.proofs.Counting.{prefix_len_of_le}
 use borrow.Author.Rules.{rules}
 use Rattle.files.proofs.folder_len.Goals as goal
 
+-- what holds at n - 1, and from n on, holds from n - 1 on
 from_less : (P : ℕ → Type 0) (n : ℕ) → ((k : ℕ) → n ≤ k → P k) → P (n - 1) → (k : ℕ) → n - 1 ≤ k → P k
 from_less P n all here k l = ⊎_elim (λ e. subst P e here) (λ h. all k (omega arith)) (eq-or-lt_of_le l)
 

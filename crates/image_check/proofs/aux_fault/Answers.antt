@@ -6,6 +6,12 @@ use lib.ListN.{length}
 use Rattle.image_check.proofs.Passing.{formed, lg_arr_here, payload_here}
 use Rattle.image_check.proofs.Aux.{other, none, judgeable, judged}
 use Rattle.image_check.proofs.aux_fault.Goals as goal
+use Rattle.image_check.proofs.aux_fault.Goals.{After-bytes_of-end}
+
+-- the register bytes lie within the image
+whole : (c : After-bytes_of-end) → 40 + c.bytes_of-end.result ≤ length c.args.image.now
+whole c =
+    omega (arith, c.bytes_of-end.ensures, payload_here c.requires.sound)
 
 pub returns-then-h-ne4 : goal.returns-then-h-ne4
 returns-then-h-ne4 c = other _ _ _ c.requires c.if-h-ne4.true
@@ -13,36 +19,27 @@ returns-then-h-ne4 c = other _ _ _ c.requires c.if-h-ne4.true
 pub returns-then-fulls-eq0 : goal.returns-then-fulls-eq0
 returns-then-fulls-eq0 c = none _ _ _ c.requires c.if-h-ne4.false c.if-h-eq0.true c.if-fulls-eq0.true
 
--- the register bytes lie within the image
 pub bytes_of-end-requires : goal.bytes_of-end-requires
 bytes_of-end-requires c = (formed c.requires.sound.formed).1.1
 
 pub overflow_add-end : goal.overflow_add-end
 overflow_add-end c =
-    let whole : 40 + c.bytes_of-end.result ≤ length c.args.image.now =
-    omega (arith, c.bytes_of-end.ensures, payload_here c.requires.sound) in
-    omega (arith, whole)
+    omega (arith, whole c)
 
 pub word_count-many-requires : goal.word_count-many-requires
 word_count-many-requires c = lg_arr_here c.requires.sound
 
 pub slice_bounds-aux_fault-end : goal.slice_bounds-aux_fault-end
 slice_bounds-aux_fault-end c =
-    let whole : 40 + c.bytes_of-end.result ≤ length c.args.image.now =
-    omega (arith, c.bytes_of-end.ensures, payload_here c.requires.sound) in
-    omega (arith, whole)
+    omega (arith, whole (goal.at.slice_bounds-aux_fault-end c).After-bytes_of-end)
 
 pub slice_bounds-aux_fault-count-2 : goal.slice_bounds-aux_fault-count-2
 slice_bounds-aux_fault-count-2 c =
-    let whole : 40 + c.bytes_of-end.result ≤ length c.args.image.now =
-    omega (arith, c.bytes_of-end.ensures, payload_here c.requires.sound) in
-    omega (arith, whole)
+    omega (arith, whole (goal.at.slice_bounds-aux_fault-count-2 c).After-bytes_of-end)
 
 pub slice_bounds-aux_fault-start-2 : goal.slice_bounds-aux_fault-start-2
 slice_bounds-aux_fault-start-2 c =
-    let whole : 40 + c.bytes_of-end.result ≤ length c.args.image.now =
-    omega (arith, c.bytes_of-end.ensures, payload_here c.requires.sound) in
-    omega (arith, whole)
+    omega (arith, whole (goal.at.slice_bounds-aux_fault-start-2 c).After-bytes_of-end)
 
 pub aux_fault-requires : goal.aux_fault-requires
 aux_fault-requires c =

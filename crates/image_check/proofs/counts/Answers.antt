@@ -12,26 +12,46 @@ use Rattle.model.proofs.packing.Lengths.{bytes_few}
 use Rattle.image_header.proofs.Headers.{lg_arr_is}
 use Rattle.image_check.proofs.Passing.{formed, is_in, end_is, words_small}
 use Rattle.image_check.proofs.counts.Goals as goal
+use Rattle.image_check.proofs.counts.Goals.{After-counts_fit-fit, After-lg_arr_fits-form, After-word_count-many, Else-not-fit, Else-not-form}
+
+-- the tests, of what the book reads
+fit_is : (c : After-counts_fit-fit) → c.counts_fit-fit.result ≡ counts_fit (sketch_in c.args.image.now)
+fit_is c =
+    c.counts_fit-fit.ensures ∙ ap counts_fit (c.sketch_of.ensures ∙ is_in c.requires)
+
+form_is : (c : After-lg_arr_fits-form) → c.lg_arr_fits-form.result ≡ lg_arr_fits c.args.image.now
+form_is c =
+    c.lg_arr_fits-form.ensures ∙ lg_arr_is _ _ c.requires.headed
+
+counts : (c : Else-not-fit) → counts_fit (sketch_in c.args.image.now) ≡ true
+counts c =
+    let fit_is : c.counts_fit-fit.result ≡ counts_fit (sketch_in c.args.image.now) =
+    c.counts_fit-fit.ensures ∙ ap counts_fit (c.sketch_of.ensures ∙ is_in c.requires) in
+    sym fit_is ∙ c.if-not-fit.false
+
+form : (c : Else-not-form) → lg_arr_fits c.args.image.now ≡ true
+form c =
+    let form_is : c.lg_arr_fits-form.result ≡ lg_arr_fits c.args.image.now =
+    c.lg_arr_fits-form.ensures ∙ lg_arr_is _ _ c.requires.headed in
+    sym form_is ∙ c.if-not-form.false
 
 -- where the payload ends
+end : (c : After-word_count-many) → let l = c.args.image.now in
+    40 + c.bytes_of-bytes.result + 4 * c.word_count-many.result ≡ 40 + bytes_of (sketch_in l).kind (sketch_in l).lg_k + 4 * word_count l
+end c =
+    ap₂ (λ (m n : ℕ). 40 + m + 4 * n) c.bytes_of-bytes.ensures c.word_count-many.ensures ∙ end_is c.requires
+
 pub counts_fit-fit-requires : goal.counts_fit-fit-requires
 counts_fit-fit-requires c = rw c.sketch_of.ensures (formed c.requires).1.1
 
 pub returns-then-not-fit : goal.returns-then-not-fit
 returns-then-not-fit c =
-    let fit_is : c.counts_fit-fit.result ≡ counts_fit (sketch_in c.args.image.now) =
-    c.counts_fit-fit.ensures ∙ ap counts_fit (c.sketch_of.ensures ∙ is_in c.requires) in
-    counts_off _ (sym fit_is ∙ c.if-not-fit.true)
+    counts_off _ (sym (fit_is (goal.at.returns-then-not-fit c).After-counts_fit-fit) ∙ c.if-not-fit.true)
 
 pub returns-then-not-form : goal.returns-then-not-form
 returns-then-not-form c =
-    let fit_is : c.counts_fit-fit.result ≡ counts_fit (sketch_in c.args.image.now) =
-    c.counts_fit-fit.ensures ∙ ap counts_fit (c.sketch_of.ensures ∙ is_in c.requires) in
-    let form_is : c.lg_arr_fits-form.result ≡ lg_arr_fits c.args.image.now =
-    c.lg_arr_fits-form.ensures ∙ lg_arr_is _ _ c.requires.headed in
-    let counts : counts_fit (sketch_in c.args.image.now) ≡ true =
-    sym fit_is ∙ c.if-not-fit.false in
-    counts_lg_arr _ counts (sym form_is ∙ c.if-not-form.true)
+    let past = goal.at.returns-then-not-form c in
+    counts_lg_arr _ (counts past.Else-not-fit) (sym (form_is past.After-lg_arr_fits-form) ∙ c.if-not-form.true)
 
 pub bytes_of-bytes-requires : goal.bytes_of-bytes-requires
 bytes_of-bytes-requires c = (formed c.requires).1.1
@@ -41,60 +61,28 @@ word_count-many-requires c = sym c.lg_arr_fits-form.ensures ∙ c.if-not-form.fa
 
 pub overflow_add-bytes : goal.overflow_add-bytes
 overflow_add-bytes c =
-    let fit_is : c.counts_fit-fit.result ≡ counts_fit (sketch_in c.args.image.now) =
-    c.counts_fit-fit.ensures ∙ ap counts_fit (c.sketch_of.ensures ∙ is_in c.requires) in
-    let counts : counts_fit (sketch_in c.args.image.now) ≡ true =
-    sym fit_is ∙ c.if-not-fit.false in
     let bytes : c.bytes_of-bytes.result ≤ 2 ^ 21 = rw c.bytes_of-bytes.ensures (bytes_few _ _ (formed c.requires).1.1) in
-    let words : c.word_count-many.result < 2 ^ 32 = rw c.word_count-many.ensures (words_small c.requires counts (sym c.lg_arr_fits-form.ensures ∙ c.if-not-form.false)) in
+    let words : c.word_count-many.result < 2 ^ 32 = rw c.word_count-many.ensures (words_small c.requires (counts (goal.at.overflow_add-bytes c).Else-not-fit) (sym c.lg_arr_fits-form.ensures ∙ c.if-not-form.false)) in
     omega arith
 
 pub overflow_mul-many : goal.overflow_mul-many
 overflow_mul-many c =
-    let fit_is : c.counts_fit-fit.result ≡ counts_fit (sketch_in c.args.image.now) =
-    c.counts_fit-fit.ensures ∙ ap counts_fit (c.sketch_of.ensures ∙ is_in c.requires) in
-    let counts : counts_fit (sketch_in c.args.image.now) ≡ true =
-    sym fit_is ∙ c.if-not-fit.false in
     let bytes : c.bytes_of-bytes.result ≤ 2 ^ 21 = rw c.bytes_of-bytes.ensures (bytes_few _ _ (formed c.requires).1.1) in
-    let words : c.word_count-many.result < 2 ^ 32 = rw c.word_count-many.ensures (words_small c.requires counts (sym c.lg_arr_fits-form.ensures ∙ c.if-not-form.false)) in
+    let words : c.word_count-many.result < 2 ^ 32 = rw c.word_count-many.ensures (words_small c.requires (counts (goal.at.overflow_mul-many c).Else-not-fit) (sym c.lg_arr_fits-form.ensures ∙ c.if-not-form.false)) in
     omega arith
 
 pub overflow_add-bytes-2 : goal.overflow_add-bytes-2
 overflow_add-bytes-2 c =
-    let fit_is : c.counts_fit-fit.result ≡ counts_fit (sketch_in c.args.image.now) =
-    c.counts_fit-fit.ensures ∙ ap counts_fit (c.sketch_of.ensures ∙ is_in c.requires) in
-    let counts : counts_fit (sketch_in c.args.image.now) ≡ true =
-    sym fit_is ∙ c.if-not-fit.false in
     let bytes : c.bytes_of-bytes.result ≤ 2 ^ 21 = rw c.bytes_of-bytes.ensures (bytes_few _ _ (formed c.requires).1.1) in
-    let words : c.word_count-many.result < 2 ^ 32 = rw c.word_count-many.ensures (words_small c.requires counts (sym c.lg_arr_fits-form.ensures ∙ c.if-not-form.false)) in
+    let words : c.word_count-many.result < 2 ^ 32 = rw c.word_count-many.ensures (words_small c.requires (counts (goal.at.overflow_add-bytes-2 c).Else-not-fit) (sym c.lg_arr_fits-form.ensures ∙ c.if-not-form.false)) in
     omega arith
 
 pub returns-then-image-bytes : goal.returns-then-image-bytes
 returns-then-image-bytes c =
-    let fit_is : c.counts_fit-fit.result ≡ counts_fit (sketch_in c.args.image.now) =
-    c.counts_fit-fit.ensures ∙ ap counts_fit (c.sketch_of.ensures ∙ is_in c.requires) in
-    let form_is : c.lg_arr_fits-form.result ≡ lg_arr_fits c.args.image.now =
-    c.lg_arr_fits-form.ensures ∙ lg_arr_is _ _ c.requires.headed in
-    let counts : counts_fit (sketch_in c.args.image.now) ≡ true =
-    sym fit_is ∙ c.if-not-fit.false in
-    let form : lg_arr_fits c.args.image.now ≡ true =
-    sym form_is ∙ c.if-not-form.false in
-    let end : let l = c.args.image.now in
-    40 + c.bytes_of-bytes.result + 4 * c.word_count-many.result ≡ 40 + bytes_of (sketch_in l).kind (sketch_in l).lg_k + 4 * word_count l =
-    ap₂ (λ (m n : ℕ). 40 + m + 4 * n) c.bytes_of-bytes.ensures c.word_count-many.ensures ∙ end_is c.requires in
-    counts_short _ counts form (subst (λ (n : ℕ). length c.args.image.now < n) end c.if-image-bytes.true)
+    let past = goal.at.returns-then-image-bytes c in
+    counts_short _ (counts past.Else-not-fit) (form past.Else-not-form) (subst (λ (n : ℕ). length c.args.image.now < n) (end past.After-word_count-many) c.if-image-bytes.true)
 
 pub returns : goal.returns
 returns c =
-    let fit_is : c.counts_fit-fit.result ≡ counts_fit (sketch_in c.args.image.now) =
-    c.counts_fit-fit.ensures ∙ ap counts_fit (c.sketch_of.ensures ∙ is_in c.requires) in
-    let form_is : c.lg_arr_fits-form.result ≡ lg_arr_fits c.args.image.now =
-    c.lg_arr_fits-form.ensures ∙ lg_arr_is _ _ c.requires.headed in
-    let counts : counts_fit (sketch_in c.args.image.now) ≡ true =
-    sym fit_is ∙ c.if-not-fit.false in
-    let form : lg_arr_fits c.args.image.now ≡ true =
-    sym form_is ∙ c.if-not-form.false in
-    let end : let l = c.args.image.now in
-    40 + c.bytes_of-bytes.result + 4 * c.word_count-many.result ≡ 40 + bytes_of (sketch_in l).kind (sketch_in l).lg_k + 4 * word_count l =
-    ap₂ (λ (m n : ℕ). 40 + m + 4 * n) c.bytes_of-bytes.ensures c.word_count-many.ensures ∙ end_is c.requires in
-    counts_right _ counts form (subst (λ (n : ℕ). n ≤ length c.args.image.now) end c.if-image-bytes.false)
+    let past = goal.at.returns c in
+    counts_right _ (counts past.Else-not-fit) (form past.Else-not-form) (subst (λ (n : ℕ). n ≤ length c.args.image.now) (end past.After-word_count-many) c.if-image-bytes.false)

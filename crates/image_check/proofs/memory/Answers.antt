@@ -3,18 +3,19 @@ use mathlib.Core.Path.{◌≡◌, sym, ◌∙◌}
 use Rattle.model.specs.Check.{size_no}
 use Rattle.model.proofs.calls.Rungs.{size_off, size_right, memory_size, memory_scratch, memory_right}
 use Rattle.image_check.proofs.memory.Goals as goal
+use Rattle.image_check.proofs.memory.Goals.{Else-regs_len-bytes_of}
+
+sized : (c : Else-regs_len-bytes_of) → let a = c.args in size_no a.kind a.lg_k a.regs_len ≡ 0
+sized c =
+    size_right _ _ _ (c.if-regs_len-bytes_of.false ∙ c.bytes_of.ensures)
 
 pub returns-then-regs_len-bytes_of : goal.returns-then-regs_len-bytes_of
 returns-then-regs_len-bytes_of c = memory_size _ _ _ _ _ (size_off _ _ _ (λ e. c.if-regs_len-bytes_of.true (e ∙ sym c.bytes_of.ensures)))
 
 pub returns-then-not-spare : goal.returns-then-not-spare
 returns-then-not-spare c =
-    let sized : let a = c.args in size_no a.kind a.lg_k a.regs_len ≡ 0 =
-    size_right _ _ _ (c.if-regs_len-bytes_of.false ∙ c.bytes_of.ensures) in
-    memory_scratch _ _ _ _ _ sized (sym c.scratch_fits-spare.ensures ∙ c.if-not-spare.true)
+    memory_scratch _ _ _ _ _ (sized (goal.at.returns-then-not-spare c).Else-regs_len-bytes_of) (sym c.scratch_fits-spare.ensures ∙ c.if-not-spare.true)
 
 pub returns : goal.returns
 returns c =
-    let sized : let a = c.args in size_no a.kind a.lg_k a.regs_len ≡ 0 =
-    size_right _ _ _ (c.if-regs_len-bytes_of.false ∙ c.bytes_of.ensures) in
-    memory_right _ _ _ _ _ sized (sym c.scratch_fits-spare.ensures ∙ c.if-not-spare.false)
+    memory_right _ _ _ _ _ (sized (goal.at.returns c).Else-regs_len-bytes_of) (sym c.scratch_fits-spare.ensures ∙ c.if-not-spare.false)

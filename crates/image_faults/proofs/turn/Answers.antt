@@ -10,59 +10,56 @@ use Rattle.coupon.proofs.Masks.{home_in}
 use Rattle.image_faults.specs.Windows.{bit}
 use Rattle.image_faults.proofs.Turns.{turn_empty, turn_other, turn_twice, turn_low, turn_new}
 use Rattle.image_faults.proofs.turn.Goals as goal
+use Rattle.image_faults.proofs.turn.Goals.{After-home-slot, Else-before, Else-none}
+
+-- what is known on the way: the word is an entry, its slot is one of the sketch, and its bit is clear
+some : (c : Else-none) → is_empty c.args.w ≡ false
+some c =
+    sym c.is_empty-none.ensures ∙ c.if-none.false
+
+inside : (c : After-home-slot) → c.home-slot.result < 2 ^ c.args.h.lg_k
+inside c =
+    let a = c.args in omega (arith, c.home-slot.ensures, home_in a.h.lg_k a.w)
+
+room : (c : After-home-slot) → c.home-slot.result % 524288 < 8 * length c.args.marks.now
+room c =
+    omega (arith, inside c, c.requires.2)
+
+new : (c : Else-before) → bit c.args.marks.now (c.home-slot.result % 524288) ≡ false
+new c =
+    sym c.marked-before.ensures ∙ c.if-before.false
 
 pub returns-then-none : goal.returns-then-none
 returns-then-none c = turn_empty _ _ _ _ _ (sym c.is_empty-none.ensures ∙ c.if-none.true) c.empty_no-no.ensures
 
 pub returns-then-slot-b : goal.returns-then-slot-b
 returns-then-slot-b c =
-    let some : is_empty c.args.w ≡ false =
-    sym c.is_empty-none.ensures ∙ c.if-none.false in
-    turn_other _ _ _ _ _ some _ c.home-slot.ensures c.if-slot-b.true
+    turn_other _ _ _ _ _ (some (goal.at.returns-then-slot-b c).Else-none) _ c.home-slot.ensures c.if-slot-b.true
 
 pub marked-before-requires : goal.marked-before-requires
 marked-before-requires c =
-    let inside : c.home-slot.result < 2 ^ c.args.h.lg_k =
-    let a = c.args in omega (arith, c.home-slot.ensures, home_in a.h.lg_k a.w) in
-    let room : c.home-slot.result % 524288 < 8 * length c.args.marks.now =
-    omega (arith, inside, c.requires.2) in
-    room
+    room (goal.at.marked-before-requires c).After-home-slot
 
 pub returns-then-before : goal.returns-then-before
 returns-then-before c =
-    let some : is_empty c.args.w ≡ false =
-    sym c.is_empty-none.ensures ∙ c.if-none.false in
-    turn_twice _ _ _ _ _ some _ c.home-slot.ensures c.if-slot-b.false (sym c.marked-before.ensures ∙ c.if-before.true) _
+    turn_twice _ _ _ _ _ (some (goal.at.returns-then-before c).Else-none) _ c.home-slot.ensures c.if-slot-b.false (sym c.marked-before.ensures ∙ c.if-before.true) _
 
 pub returns-then-low : goal.returns-then-low
 returns-then-low c =
-    let some : is_empty c.args.w ≡ false =
-    sym c.is_empty-none.ensures ∙ c.if-none.false in
-    let new : bit c.args.marks.now (c.home-slot.result % 524288) ≡ false =
-    sym c.marked-before.ensures ∙ c.if-before.false in
-    turn_low _ _ _ _ _ some _ c.home-slot.ensures c.if-slot-b.false new (omega (arith, ltb-true, c.if-low.true, c.value.ensures)) _
+    let past = goal.at.returns-then-low c in
+    turn_low _ _ _ _ _ (some past.Else-none) _ c.home-slot.ensures c.if-slot-b.false (new past.Else-before) (omega (arith, ltb-true, c.if-low.true, c.value.ensures)) _
 
 pub mark-requires : goal.mark-requires
 mark-requires c =
-    let inside : c.home-slot.result < 2 ^ c.args.h.lg_k =
-    let a = c.args in omega (arith, c.home-slot.ensures, home_in a.h.lg_k a.w) in
-    let room : c.home-slot.result % 524288 < 8 * length c.args.marks.now =
-    omega (arith, inside, c.requires.2) in
-    let new : bit c.args.marks.now (c.home-slot.result % 524288) ≡ false =
-    sym c.marked-before.ensures ∙ c.if-before.false in
-    (room, new)
+    let past = goal.at.mark-requires c in
+    ((room past.After-home-slot), new past.Else-before)
 
 pub get_raw-even-requires : goal.get_raw-even-requires
 get_raw-even-requires c =
-    let inside : c.home-slot.result < 2 ^ c.args.h.lg_k =
-    let a = c.args in omega (arith, c.home-slot.ensures, home_in a.h.lg_k a.w) in
-    omega (arith, inside, c.requires.1)
+    omega (arith, inside (goal.at.get_raw-even-requires c).After-home-slot, c.requires.1)
 
 pub returns : goal.returns
 returns c =
-    let some : is_empty c.args.w ≡ false =
-    sym c.is_empty-none.ensures ∙ c.if-none.false in
-    let new : bit c.args.marks.now (c.home-slot.result % 524288) ≡ false =
-    sym c.marked-before.ensures ∙ c.if-before.false in
-    turn_new _ _ _ _ _ some _ c.home-slot.ensures c.if-slot-b.false new (omega (arith, ltb-false, c.if-low.false, c.value.ensures)) _ c.mark.ensures
+    let past = goal.at.returns c in
+    turn_new _ _ _ _ _ (some past.Else-none) _ c.home-slot.ensures c.if-slot-b.false (new past.Else-before) (omega (arith, ltb-false, c.if-low.false, c.value.ensures)) _ c.mark.ensures
     (λ t. sym c.get_raw-even.ensures ∙ eqb-true _ _ t)

@@ -9,44 +9,22 @@ use Rattle.model.proofs.packing.Packing.{length_unpacked}
 use Rattle.model.proofs.packing.ByteLists.{from_on}
 use Rattle.image_feed.proofs.Feeding as feeding
 use Rattle.image_feed.proofs.feed_words.Goals as goal
-
--- it lies within the words
-pub loop-i-init : goal.loop-i-init
-loop-i-init c = (refl, refl, refl, feeding.feeding_none _ _ _ _ c.requires.0.good)
+use Rattle.image_feed.proofs.feed_words.Goals.{After-feed_block-f, After-lesser-n}
 
 -- the next block: its words are there
-pub overflow_mul-i : goal.overflow_mul-i
-overflow_mul-i c =
-    let step : let n = c.lesser-n.result in let i = c.loop-i.i in let a = c.args in
-    (0 < n) × (n ≤ 64) × (i + n ≤ a.many) × (4 * (i + n) ≤ length a.words.now) =
+step : (c : After-lesser-n) → let n = c.lesser-n.result in let i = c.loop-i.i in let a = c.args in
+    (0 < n) × (n ≤ 64) × (i + n ≤ a.many) × (4 * (i + n) ≤ length a.words.now)
+step c =
     let h = c.loop-i-test.true in
     let e = c.lesser-n.ensures in
     let w = c.requires.1 in
-    (omega arith, omega arith, omega arith, omega arith) in
-    omega (arith, step)
+    (omega arith, omega arith, omega arith, omega arith)
 
-pub slice_bounds-feed_block-count : goal.slice_bounds-feed_block-count
-slice_bounds-feed_block-count c =
-    let step : let n = c.lesser-n.result in let i = c.loop-i.i in let a = c.args in
-    (0 < n) × (n ≤ 64) × (i + n ≤ a.many) × (4 * (i + n) ≤ length a.words.now) =
-    let h = c.loop-i-test.true in
-    let e = c.lesser-n.ensures in
-    let w = c.requires.1 in
-    (omega arith, omega arith, omega arith, omega arith) in
-    omega (arith, step)
-
-pub slice_bounds-feed_block-start : goal.slice_bounds-feed_block-start
-slice_bounds-feed_block-start c =
-    let step : let n = c.lesser-n.result in let i = c.loop-i.i in let a = c.args in
-    (0 < n) × (n ≤ 64) × (i + n ≤ a.many) × (4 * (i + n) ≤ length a.words.now) =
-    let h = c.loop-i-test.true in
-    let e = c.lesser-n.ensures in
-    let w = c.requires.1 in
-    (omega arith, omega arith, omega arith, omega arith) in
-    omega (arith, step)
-
-pub feed_block-f-requires : goal.feed_block-f-requires
-feed_block-f-requires c =
+-- what it gave
+block : (c : After-feed_block-f) → let l = c.loop-i in let a = c.args in
+    fed_out c.feed_block-f.result c.feed_block-f.new.regs c.feed_block-f.new.aux
+    ≡ batch_of l.fed l.regs l.aux (take c.lesser-n.result (drop l.i (unpacked 32 a.many a.words.now)))
+block c =
     let step : let n = c.lesser-n.result in let i = c.loop-i.i in let a = c.args in
     (0 < n) × (n ≤ 64) × (i + n ≤ a.many) × (4 * (i + n) ≤ length a.words.now) =
     let h = c.loop-i-test.true in
@@ -54,8 +32,36 @@ feed_block-f-requires c =
     let w = c.requires.1 in
     (omega arith, omega arith, omega arith, omega arith) in
     let words = c.args.words.now in
+    c.feed_block-f.ensures
+    ∙ ap (batch_of c.loop-i.fed c.loop-i.regs c.loop-i.aux)
+    (ap (unpacked 32 c.lesser-n.result) (from_on (4 * c.loop-i.i) words)
+    ∙ feeding.block_words c.loop-i.i c.lesser-n.result c.args.many words (λ i. (c.type_inv.words i).fits) c.requires.1 step.2)
+
+-- it lies within the words
+within : (c : After-lesser-n) → let a = c.args in c.loop-i.i + c.lesser-n.result ≤ length (unpacked 32 a.many a.words.now)
+within c =
+    let a = c.args in rw (length_unpacked 32 a.many a.words.now) (step c).2
+
+pub loop-i-init : goal.loop-i-init
+loop-i-init c = (refl, refl, refl, feeding.feeding_none _ _ _ _ c.requires.0.good)
+
+pub overflow_mul-i : goal.overflow_mul-i
+overflow_mul-i c =
+    omega (arith, step (goal.at.overflow_mul-i c).After-lesser-n)
+
+pub slice_bounds-feed_block-count : goal.slice_bounds-feed_block-count
+slice_bounds-feed_block-count c =
+    omega (arith, step (goal.at.slice_bounds-feed_block-count c).After-lesser-n)
+
+pub slice_bounds-feed_block-start : goal.slice_bounds-feed_block-start
+slice_bounds-feed_block-start c =
+    omega (arith, step (goal.at.slice_bounds-feed_block-start c).After-lesser-n)
+
+pub feed_block-f-requires : goal.feed_block-f-requires
+feed_block-f-requires c =
+    let words = c.args.words.now in
     let part = ap length (from_on (4 * c.loop-i.i) words) ∙ length-drop (4 * c.loop-i.i) words in
-    let w = step in (
+    let w = (step (goal.at.feed_block-f-requires c).After-lesser-n) in (
       record {
         good = c.loop-i.invariant.3.good;
         spare = λ four. omega (arith, c.loop-i.invariant.1, c.loop-i.invariant.2, c.requires.0.spare (sym c.loop-i.invariant.3.kind ∙ four));
@@ -64,26 +70,10 @@ feed_block-f-requires c =
       omega arith,
     )
 
--- what it gave
 pub overflow_add-result : goal.overflow_add-result
 overflow_add-result c =
-    let step : let n = c.lesser-n.result in let i = c.loop-i.i in let a = c.args in
-    (0 < n) × (n ≤ 64) × (i + n ≤ a.many) × (4 * (i + n) ≤ length a.words.now) =
-    let h = c.loop-i-test.true in
-    let e = c.lesser-n.ensures in
-    let w = c.requires.1 in
-    (omega arith, omega arith, omega arith, omega arith) in
-    let block : let l = c.loop-i in let a = c.args in
-    fed_out c.feed_block-f.result c.feed_block-f.new.regs c.feed_block-f.new.aux
-    ≡ batch_of l.fed l.regs l.aux (take c.lesser-n.result (drop l.i (unpacked 32 a.many a.words.now))) =
-    let words = c.args.words.now in
-    c.feed_block-f.ensures
-    ∙ ap (batch_of c.loop-i.fed c.loop-i.regs c.loop-i.aux)
-    (ap (unpacked 32 c.lesser-n.result) (from_on (4 * c.loop-i.i) words)
-    ∙ feeding.block_words c.loop-i.i c.lesser-n.result c.args.many words (λ i. (c.type_inv.words i).fits) c.requires.1 step.2) in
-    let within : let a = c.args in c.loop-i.i + c.lesser-n.result ≤ length (unpacked 32 a.many a.words.now) =
-    let a = c.args in rw (length_unpacked 32 a.many a.words.now) step.2 in
-    omega (arith, step, feeding.feeding_few c.loop-i.invariant.3 c.lesser-n.result within _ block)
+    let past = goal.at.overflow_add-result c in
+    omega (arith, step past.After-lesser-n, feeding.feeding_few c.loop-i.invariant.3 c.lesser-n.result (within past.After-lesser-n) _ (block past.After-feed_block-f))
 
 pub shape_of-regs-then-number-ne0 : goal.shape_of-regs-then-number-ne0
 shape_of-regs-then-number-ne0 c =
@@ -99,66 +89,24 @@ shape_of-scratch-then-number-ne0 c =
 
 pub returns-then-number-ne0 : goal.returns-then-number-ne0
 returns-then-number-ne0 c =
-    let step : let n = c.lesser-n.result in let i = c.loop-i.i in let a = c.args in
-    (0 < n) × (n ≤ 64) × (i + n ≤ a.many) × (4 * (i + n) ≤ length a.words.now) =
-    let h = c.loop-i-test.true in
-    let e = c.lesser-n.ensures in
-    let w = c.requires.1 in
-    (omega arith, omega arith, omega arith, omega arith) in
-    let block : let l = c.loop-i in let a = c.args in
-    fed_out c.feed_block-f.result c.feed_block-f.new.regs c.feed_block-f.new.aux
-    ≡ batch_of l.fed l.regs l.aux (take c.lesser-n.result (drop l.i (unpacked 32 a.many a.words.now))) =
-    let words = c.args.words.now in
-    c.feed_block-f.ensures
-    ∙ ap (batch_of c.loop-i.fed c.loop-i.regs c.loop-i.aux)
-    (ap (unpacked 32 c.lesser-n.result) (from_on (4 * c.loop-i.i) words)
-    ∙ feeding.block_words c.loop-i.i c.lesser-n.result c.args.many words (λ i. (c.type_inv.words i).fits) c.requires.1 step.2) in
-    let within : let a = c.args in c.loop-i.i + c.lesser-n.result ≤ length (unpacked 32 a.many a.words.now) =
-    let a = c.args in rw (length_unpacked 32 a.many a.words.now) step.2 in
-    feeding.feeding_stop c.loop-i.invariant.3 c.lesser-n.result within _ block (λ z. c.if-number-ne0.true (c.number.ensures ∙ z))
+    let past = goal.at.returns-then-number-ne0 c in
+    feeding.feeding_stop c.loop-i.invariant.3 c.lesser-n.result (within past.After-lesser-n) _ (block past.After-feed_block-f) (λ z. c.if-number-ne0.true (c.number.ensures ∙ z))
 
 pub overflow_add-i : goal.overflow_add-i
 overflow_add-i c =
-    let step : let n = c.lesser-n.result in let i = c.loop-i.i in let a = c.args in
-    (0 < n) × (n ≤ 64) × (i + n ≤ a.many) × (4 * (i + n) ≤ length a.words.now) =
-    let h = c.loop-i-test.true in
-    let e = c.lesser-n.ensures in
-    let w = c.requires.1 in
-    (omega arith, omega arith, omega arith, omega arith) in
-    omega (arith, step)
+    omega (arith, step (goal.at.overflow_add-i c).After-lesser-n)
 
 pub loop-i-smaller : goal.loop-i-smaller
 loop-i-smaller c =
-    let step : let n = c.lesser-n.result in let i = c.loop-i.i in let a = c.args in
-    (0 < n) × (n ≤ 64) × (i + n ≤ a.many) × (4 * (i + n) ≤ length a.words.now) =
-    let h = c.loop-i-test.true in
-    let e = c.lesser-n.ensures in
-    let w = c.requires.1 in
-    (omega arith, omega arith, omega arith, omega arith) in
-    let w = step in omega (arith, w)
+    let w = (step (goal.at.loop-i-smaller c).After-lesser-n) in omega (arith, w)
 
 pub loop-i-preserved : goal.loop-i-preserved
 loop-i-preserved c =
-    let step : let n = c.lesser-n.result in let i = c.loop-i.i in let a = c.args in
-    (0 < n) × (n ≤ 64) × (i + n ≤ a.many) × (4 * (i + n) ≤ length a.words.now) =
-    let h = c.loop-i-test.true in
-    let e = c.lesser-n.ensures in
-    let w = c.requires.1 in
-    (omega arith, omega arith, omega arith, omega arith) in
-    let block : let l = c.loop-i in let a = c.args in
-    fed_out c.feed_block-f.result c.feed_block-f.new.regs c.feed_block-f.new.aux
-    ≡ batch_of l.fed l.regs l.aux (take c.lesser-n.result (drop l.i (unpacked 32 a.many a.words.now))) =
-    let words = c.args.words.now in
-    c.feed_block-f.ensures
-    ∙ ap (batch_of c.loop-i.fed c.loop-i.regs c.loop-i.aux)
-    (ap (unpacked 32 c.lesser-n.result) (from_on (4 * c.loop-i.i) words)
-    ∙ feeding.block_words c.loop-i.i c.lesser-n.result c.args.many words (λ i. (c.type_inv.words i).fits) c.requires.1 step.2) in
-    let within : let a = c.args in c.loop-i.i + c.lesser-n.result ≤ length (unpacked 32 a.many a.words.now) =
-    let a = c.args in rw (length_unpacked 32 a.many a.words.now) step.2 in (
+    let past = goal.at.loop-i-preserved c in (
       c.feed_block-f.auto.regs ∙ c.loop-i.invariant.0,
       c.feed_block-f.auto.aux ∙ c.loop-i.invariant.1,
       c.feed_block-f.auto.scratch ∙ c.loop-i.invariant.2,
-      feeding.feeding_more c.loop-i.invariant.3 c.lesser-n.result within _ block (sym c.number.ensures ∙ c.if-number-ne0.false),
+      feeding.feeding_more c.loop-i.invariant.3 c.lesser-n.result (within past.After-lesser-n) _ (block past.After-feed_block-f) (sym c.number.ensures ∙ c.if-number-ne0.false),
     )
 
 pub shape_of-regs : goal.shape_of-regs

@@ -8,6 +8,11 @@ use Rattle.image_check.proofs.Passing.{lg_arr_here, payload_here}
 use Rattle.image_load.proofs.Laying.{area_other, sound, high, collectable, buildable, area_four}
 use borrow.Author.Rules.{rules}
 use Rattle.image_load.proofs.lay.Goals as goal
+use Rattle.image_load.proofs.lay.Goals.{After-bytes_of-end}
+
+whole : (c : After-bytes_of-end) → 40 + c.bytes_of-end.result ≤ length c.args.image.now
+whole c =
+    omega (arith, c.bytes_of-end.ensures, payload_here (sound _ _ _ _ c.requires))
 
 pub returns-then-h-ne4 : goal.returns-then-h-ne4
 returns-then-h-ne4 c = area_other _ _ _ c.if-h-ne4.true
@@ -17,24 +22,18 @@ bytes_of-end-requires c = high _ _ _ _ c.requires
 
 pub overflow_add-end : goal.overflow_add-end
 overflow_add-end c =
-    let whole : 40 + c.bytes_of-end.result ≤ length c.args.image.now =
-    omega (arith, c.bytes_of-end.ensures, payload_here (sound _ _ _ _ c.requires)) in
-    omega (arith, whole)
+    omega (arith, whole c)
 
 pub word_count-many-requires : goal.word_count-many-requires
 word_count-many-requires c = lg_arr_here (sound _ _ _ _ c.requires)
 
 pub slice_bounds-collect-count : goal.slice_bounds-collect-count
 slice_bounds-collect-count c =
-    let whole : 40 + c.bytes_of-end.result ≤ length c.args.image.now =
-    omega (arith, c.bytes_of-end.ensures, payload_here (sound _ _ _ _ c.requires)) in
-    omega (arith, whole)
+    omega (arith, whole (goal.at.slice_bounds-collect-count c).After-bytes_of-end)
 
 pub slice_bounds-collect-start : goal.slice_bounds-collect-start
 slice_bounds-collect-start c =
-    let whole : 40 + c.bytes_of-end.result ≤ length c.args.image.now =
-    omega (arith, c.bytes_of-end.ensures, payload_here (sound _ _ _ _ c.requires)) in
-    omega (arith, whole)
+    omega (arith, whole (goal.at.slice_bounds-collect-start c).After-bytes_of-end)
 
 pub collect-top-requires : goal.collect-top-requires
 collect-top-requires c =

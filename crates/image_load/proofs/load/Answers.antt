@@ -19,6 +19,21 @@ use Rattle.image_check.proofs.Payload.{regs_part}
 use Rattle.image_load.specs.Loaded.{Accepted}
 use Rattle.image_load.proofs.Laying.{is_in, sound, regs_size}
 use Rattle.image_load.proofs.load.Goals as goal
+use Rattle.image_load.proofs.load.Goals.{Else-number-ne0}
+
+-- what is known where no rung refuses
+passed : (c : Else-number-ne0) → let a = c.args in open_no a.image.now (length a.regs.now) (length a.aux.now) (length a.scratch.now) ≡ 0
+passed c =
+    ap (λ (f : Said). f.no) (sym c.check-answer.ensures) ∙ sym c.number.ensures ∙ c.if-number-ne0.false
+
+accepted : (c : Else-number-ne0) → let a = c.args in Accepted a.image.now a.h (length a.aux.now) (length a.scratch.now)
+accepted c =
+    record { headed = c.requires; regs = length c.args.regs.now; passed = (passed c) }
+
+size : (c : Else-number-ne0) → let a = c.args in length a.regs.now ≡ bytes_of a.h.kind a.h.lg_k
+unfolding accepted
+size c =
+    regs_size _ _ _ _ (accepted c)
 
 pub returns-then-number-ne0 : goal.returns-then-number-ne0
 returns-then-number-ne0 c =
@@ -28,37 +43,24 @@ returns-then-number-ne0 c =
 
 pub slice_bounds-copy-end : goal.slice_bounds-copy-end
 slice_bounds-copy-end c =
-    let passed : let a = c.args in open_no a.image.now (length a.regs.now) (length a.aux.now) (length a.scratch.now) ≡ 0 =
-    ap (λ (f : Said). f.no) (sym c.check-answer.ensures) ∙ sym c.number.ensures ∙ c.if-number-ne0.false in
-    let accepted : let a = c.args in Accepted a.image.now a.h (length a.aux.now) (length a.scratch.now) =
-    record { headed = c.requires; regs = length c.args.regs.now; passed = passed } in
-    let size : let a = c.args in length a.regs.now ≡ bytes_of a.h.kind a.h.lg_k =
-    regs_size _ _ _ _ accepted in
-    omega (arith, size, payload_here (sound _ _ _ _ accepted))
+    omega (arith, size c, payload_here (sound _ _ _ _ (accepted c)))
 
 pub lay-requires : goal.lay-requires
 lay-requires c =
-    let passed : let a = c.args in open_no a.image.now (length a.regs.now) (length a.aux.now) (length a.scratch.now) ≡ 0 =
-    ap (λ (f : Said). f.no) (sym c.check-answer.ensures) ∙ sym c.number.ensures ∙ c.if-number-ne0.false in
     let a = c.args in
     record {
       headed = c.requires;
       regs = length a.regs.now;
-      passed = passed;
+      passed = (passed (goal.at.lay-requires c).Else-number-ne0);
     }
 
 pub returns : goal.returns
 unfolding area_in
 returns c =
-    let passed : let a = c.args in open_no a.image.now (length a.regs.now) (length a.aux.now) (length a.scratch.now) ≡ 0 =
-    ap (λ (f : Said). f.no) (sym c.check-answer.ensures) ∙ sym c.number.ensures ∙ c.if-number-ne0.false in
-    let accepted : let a = c.args in Accepted a.image.now a.h (length a.aux.now) (length a.scratch.now) =
-    record { headed = c.requires; regs = length c.args.regs.now; passed = passed } in
-    let size : let a = c.args in length a.regs.now ≡ bytes_of a.h.kind a.h.lg_k =
-    regs_size _ _ _ _ accepted in
+    let past = goal.at.returns c in
     let a = c.args in
     let l = a.image.now in
-    let is = is_in _ _ _ _ accepted in
-    (λ i. out 0 0 ((c.sketch_of.ensures ∙ is) i) 0 ((c.copy.ensures ∙ regs_part l (record_in a.h) is _ size) i)
+    let is = is_in _ _ _ _ (accepted past.Else-number-ne0) in
+    (λ i. out 0 0 ((c.sketch_of.ensures ∙ is) i) 0 ((c.copy.ensures ∙ regs_part l (record_in a.h) is _ (size past.Else-number-ne0)) i)
     ((c.lay.ensures ∙ ap (λ (r : Sketch). area_of r.kind (made (base_for r.lg_k) (map (homed (2 ^ r.lg_k)) (entries_in l))) a.aux.now) is) i))
-    ∙ sym (opens_to l a.regs.now a.aux.now a.scratch.now passed)
+    ∙ sym (opens_to l a.regs.now a.aux.now a.scratch.now (passed past.Else-number-ne0))

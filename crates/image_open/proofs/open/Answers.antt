@@ -10,6 +10,11 @@ use Rattle.model.proofs.image.Opens.{header_says}
 use Rattle.model.proofs.calls.Places.{header_low}
 use Rattle.model.proofs.image.SaidIn.{answer_in, open_refused}
 use Rattle.image_open.proofs.open.Goals as goal
+use Rattle.image_open.proofs.open.Goals.{Else-number-ne0}
+
+passed : (c : Else-number-ne0) → header_no c.args.image.now ≡ 0
+passed c =
+    sym c.check-answer.ensures ∙ sym c.number.ensures ∙ c.if-number-ne0.false
 
 -- the header's number is the call's
 pub returns-then-number-ne0 : goal.returns-then-number-ne0
@@ -26,12 +31,8 @@ returns-then-number-ne0 c =
 
 pub header_in-h-requires : goal.header_in-h-requires
 header_in-h-requires c =
-    let passed : header_no c.args.image.now ≡ 0 =
-    sym c.check-answer.ensures ∙ sym c.number.ensures ∙ c.if-number-ne0.false in
-    ((header_says _).0 passed).0
+    ((header_says _).0 (passed c)).0
 
 pub load-requires : goal.load-requires
 load-requires c =
-    let passed : header_no c.args.image.now ≡ 0 =
-    sym c.check-answer.ensures ∙ sym c.number.ensures ∙ c.if-number-ne0.false in
-    record { passed = passed; is = c.header_in-h.ensures }
+    record { passed = (passed (goal.at.load-requires c).Else-number-ne0); is = c.header_in-h.ensures }

@@ -11,101 +11,104 @@ use Rattle.text.proofs.Writing.{written_next, written_holds}
 use Rattle.report.specs.Report.{most, merged_text}
 use Rattle.report.proofs.Lines.{line_ends, line_fits, answer_ends}
 use Rattle.report.proofs.merged.Goals as goal
+use Rattle.report.proofs.merged.Goals.{After-counts-counts, After-put_answer-second, After-put_line-fifth, After-put_line-fourth, After-put_line-seventh, After-put_line-sixth, After-put_line-third}
 
 -- where each line begins, at most
-pub put_line-third-requires : goal.put_line-third-requires
-put_line-third-requires c =
+second : (c : After-put_answer-second) → c.put_answer-second.result ≤ 17
+second c =
+    answer_ends _ c.put_answer-second.ensures
+
+third : (c : After-put_line-third) → c.put_line-third.result ≤ 44
+third c =
     let second : c.put_answer-second.result ≤ 17 =
     answer_ends _ c.put_answer-second.ensures in
-    line_fits _ _ _ 19 (search rules) (omega (arith, second))
+    omega (arith, second, line_ends _ _ 19 c.put_line-third.ensures (search rules))
+
+-- a count is no larger than the registers are many
+few : (c : After-counts-counts) → (v : ℕ) → v < 64 → get_or c.counts-counts.result v 0 < 10 ^ 20
+few c =
+    λ v h. omega (arith, c.counts-counts.ensures.each v h, count_le v c.args.regs.now, c.requires.few)
+
+fourth : (c : After-put_line-fourth) → c.put_line-fourth.result ≤ 52
+fourth c =
+    let second : c.put_answer-second.result ≤ 17 =
+    answer_ends _ c.put_answer-second.ensures in
+    let third : c.put_line-third.result ≤ 44 =
+    omega (arith, second, line_ends _ _ 19 c.put_line-third.ensures (search rules)) in
+    omega (arith, third, line_ends _ _ 2 c.put_line-fourth.ensures (search rules))
+
+fifth : (c : After-put_line-fifth) → c.put_line-fifth.result ≤ 79
+fifth c =
+    let few : (v : ℕ) → v < 64 → get_or c.counts-counts.result v 0 < 10 ^ 20 =
+    λ v h. omega (arith, c.counts-counts.ensures.each v h, count_le v c.args.regs.now, c.requires.few) in
+    let second : c.put_answer-second.result ≤ 17 =
+    answer_ends _ c.put_answer-second.ensures in
+    let third : c.put_line-third.result ≤ 44 =
+    omega (arith, second, line_ends _ _ 19 c.put_line-third.ensures (search rules)) in
+    let fourth : c.put_line-fourth.result ≤ 52 =
+    omega (arith, third, line_ends _ _ 2 c.put_line-fourth.ensures (search rules)) in
+    omega (arith, fourth, line_ends _ _ 19 c.put_line-fifth.ensures (few _ (search rules)))
+
+sixth : (c : After-put_line-sixth) → c.put_line-sixth.result ≤ 87
+sixth c =
+    let few : (v : ℕ) → v < 64 → get_or c.counts-counts.result v 0 < 10 ^ 20 =
+    λ v h. omega (arith, c.counts-counts.ensures.each v h, count_le v c.args.regs.now, c.requires.few) in
+    let second : c.put_answer-second.result ≤ 17 =
+    answer_ends _ c.put_answer-second.ensures in
+    let third : c.put_line-third.result ≤ 44 =
+    omega (arith, second, line_ends _ _ 19 c.put_line-third.ensures (search rules)) in
+    let fourth : c.put_line-fourth.result ≤ 52 =
+    omega (arith, third, line_ends _ _ 2 c.put_line-fourth.ensures (search rules)) in
+    let fifth : c.put_line-fifth.result ≤ 79 =
+    omega (arith, fourth, line_ends _ _ 19 c.put_line-fifth.ensures (few _ (search rules))) in
+    omega (arith, fifth, line_ends _ _ 2 c.put_line-sixth.ensures (search rules))
+
+seventh : (c : After-put_line-seventh) → c.put_line-seventh.result ≤ 114
+seventh c =
+    let few : (v : ℕ) → v < 64 → get_or c.counts-counts.result v 0 < 10 ^ 20 =
+    λ v h. omega (arith, c.counts-counts.ensures.each v h, count_le v c.args.regs.now, c.requires.few) in
+    let second : c.put_answer-second.result ≤ 17 =
+    answer_ends _ c.put_answer-second.ensures in
+    let third : c.put_line-third.result ≤ 44 =
+    omega (arith, second, line_ends _ _ 19 c.put_line-third.ensures (search rules)) in
+    let fourth : c.put_line-fourth.result ≤ 52 =
+    omega (arith, third, line_ends _ _ 2 c.put_line-fourth.ensures (search rules)) in
+    let fifth : c.put_line-fifth.result ≤ 79 =
+    omega (arith, fourth, line_ends _ _ 19 c.put_line-fifth.ensures (few _ (search rules))) in
+    let sixth : c.put_line-sixth.result ≤ 87 =
+    omega (arith, fifth, line_ends _ _ 2 c.put_line-sixth.ensures (search rules)) in
+    omega (arith, sixth, line_ends _ _ 19 c.put_line-seventh.ensures (search rules))
+
+pub put_line-third-requires : goal.put_line-third-requires
+put_line-third-requires c =
+    line_fits _ _ _ 19 (search rules) (omega (arith, second (goal.at.put_line-third-requires c).After-put_answer-second))
 
 pub put_line-fourth-requires : goal.put_line-fourth-requires
 put_line-fourth-requires c =
-    let second : c.put_answer-second.result ≤ 17 =
-    answer_ends _ c.put_answer-second.ensures in
-    let third : c.put_line-third.result ≤ 44 =
-    omega (arith, second, line_ends _ _ 19 c.put_line-third.ensures (search rules)) in
-    line_fits _ _ _ 2 (search rules) (omega (arith, third))
+    line_fits _ _ _ 2 (search rules) (omega (arith, third (goal.at.put_line-fourth-requires c).After-put_line-third))
 
 pub put_line-fifth-requires : goal.put_line-fifth-requires
 put_line-fifth-requires c =
-    let few : (v : ℕ) → v < 64 → get_or c.counts-counts.result v 0 < 10 ^ 20 =
-    λ v h. omega (arith, c.counts-counts.ensures.each v h, count_le v c.args.regs.now, c.requires.few) in
-    let second : c.put_answer-second.result ≤ 17 =
-    answer_ends _ c.put_answer-second.ensures in
-    let third : c.put_line-third.result ≤ 44 =
-    omega (arith, second, line_ends _ _ 19 c.put_line-third.ensures (search rules)) in
-    let fourth : c.put_line-fourth.result ≤ 52 =
-    omega (arith, third, line_ends _ _ 2 c.put_line-fourth.ensures (search rules)) in
-    line_fits _ _ _ 19 (few _ (search rules)) (omega (arith, fourth))
+    let past = goal.at.put_line-fifth-requires c in
+    line_fits _ _ _ 19 ((few past.After-counts-counts) _ (search rules)) (omega (arith, fourth past.After-put_line-fourth))
 
 pub put_line-sixth-requires : goal.put_line-sixth-requires
 put_line-sixth-requires c =
-    let few : (v : ℕ) → v < 64 → get_or c.counts-counts.result v 0 < 10 ^ 20 =
-    λ v h. omega (arith, c.counts-counts.ensures.each v h, count_le v c.args.regs.now, c.requires.few) in
-    let second : c.put_answer-second.result ≤ 17 =
-    answer_ends _ c.put_answer-second.ensures in
-    let third : c.put_line-third.result ≤ 44 =
-    omega (arith, second, line_ends _ _ 19 c.put_line-third.ensures (search rules)) in
-    let fourth : c.put_line-fourth.result ≤ 52 =
-    omega (arith, third, line_ends _ _ 2 c.put_line-fourth.ensures (search rules)) in
-    let fifth : c.put_line-fifth.result ≤ 79 =
-    omega (arith, fourth, line_ends _ _ 19 c.put_line-fifth.ensures (few _ (search rules))) in
-    line_fits _ _ _ 2 (search rules) (omega (arith, fifth))
+    line_fits _ _ _ 2 (search rules) (omega (arith, fifth (goal.at.put_line-sixth-requires c).After-put_line-fifth))
 
 pub put_line-seventh-requires : goal.put_line-seventh-requires
 put_line-seventh-requires c =
-    let few : (v : ℕ) → v < 64 → get_or c.counts-counts.result v 0 < 10 ^ 20 =
-    λ v h. omega (arith, c.counts-counts.ensures.each v h, count_le v c.args.regs.now, c.requires.few) in
-    let second : c.put_answer-second.result ≤ 17 =
-    answer_ends _ c.put_answer-second.ensures in
-    let third : c.put_line-third.result ≤ 44 =
-    omega (arith, second, line_ends _ _ 19 c.put_line-third.ensures (search rules)) in
-    let fourth : c.put_line-fourth.result ≤ 52 =
-    omega (arith, third, line_ends _ _ 2 c.put_line-fourth.ensures (search rules)) in
-    let fifth : c.put_line-fifth.result ≤ 79 =
-    omega (arith, fourth, line_ends _ _ 19 c.put_line-fifth.ensures (few _ (search rules))) in
-    let sixth : c.put_line-sixth.result ≤ 87 =
-    omega (arith, fifth, line_ends _ _ 2 c.put_line-sixth.ensures (search rules)) in
-    line_fits _ _ _ 19 (search rules) (omega (arith, sixth))
+    line_fits _ _ _ 19 (search rules) (omega (arith, sixth (goal.at.put_line-seventh-requires c).After-put_line-sixth))
 
 pub put_line-requires : goal.put_line-requires
 put_line-requires c =
-    let few : (v : ℕ) → v < 64 → get_or c.counts-counts.result v 0 < 10 ^ 20 =
-    λ v h. omega (arith, c.counts-counts.ensures.each v h, count_le v c.args.regs.now, c.requires.few) in
-    let second : c.put_answer-second.result ≤ 17 =
-    answer_ends _ c.put_answer-second.ensures in
-    let third : c.put_line-third.result ≤ 44 =
-    omega (arith, second, line_ends _ _ 19 c.put_line-third.ensures (search rules)) in
-    let fourth : c.put_line-fourth.result ≤ 52 =
-    omega (arith, third, line_ends _ _ 2 c.put_line-fourth.ensures (search rules)) in
-    let fifth : c.put_line-fifth.result ≤ 79 =
-    omega (arith, fourth, line_ends _ _ 19 c.put_line-fifth.ensures (few _ (search rules))) in
-    let sixth : c.put_line-sixth.result ≤ 87 =
-    omega (arith, fifth, line_ends _ _ 2 c.put_line-sixth.ensures (search rules)) in
-    let seventh : c.put_line-seventh.result ≤ 114 =
-    omega (arith, sixth, line_ends _ _ 19 c.put_line-seventh.ensures (search rules)) in
-    line_fits _ _ _ 19 (omega (arith, c.scaled_of-high.type_inv)) (omega (arith, seventh))
+    line_fits _ _ _ 19 (omega (arith, c.scaled_of-high.type_inv)) (omega (arith, seventh (goal.at.put_line-requires c).After-put_line-seventh))
 
 pub returns : goal.returns
 unfolding merged_text
 returns c =
-    let few : (v : ℕ) → v < 64 → get_or c.counts-counts.result v 0 < 10 ^ 20 =
-    λ v h. omega (arith, c.counts-counts.ensures.each v h, count_le v c.args.regs.now, c.requires.few) in
-    let second : c.put_answer-second.result ≤ 17 =
-    answer_ends _ c.put_answer-second.ensures in
-    let third : c.put_line-third.result ≤ 44 =
-    omega (arith, second, line_ends _ _ 19 c.put_line-third.ensures (search rules)) in
-    let fourth : c.put_line-fourth.result ≤ 52 =
-    omega (arith, third, line_ends _ _ 2 c.put_line-fourth.ensures (search rules)) in
-    let fifth : c.put_line-fifth.result ≤ 79 =
-    omega (arith, fourth, line_ends _ _ 19 c.put_line-fifth.ensures (few _ (search rules))) in
-    let sixth : c.put_line-sixth.result ≤ 87 =
-    omega (arith, fifth, line_ends _ _ 2 c.put_line-sixth.ensures (search rules)) in
-    let seventh : c.put_line-seventh.result ≤ 114 =
-    omega (arith, sixth, line_ends _ _ 19 c.put_line-seventh.ensures (search rules)) in
     let end : c.put_line.result ≤ 141 =
-    omega (arith, seventh, line_ends _ _ 19 c.put_line.ensures (omega (arith, c.scaled_of-high.type_inv))) in
+    omega (arith, seventh (goal.at.returns c).After-put_line-seventh, line_ends _ _ 19 c.put_line.ensures (omega (arith, c.scaled_of-high.type_inv))) in
     let room : c.put_line.result ≤ length c.put_line.new.out = omega (arith, end) in
     let counted = c.counts-counts.ensures in
     let R = c.args.regs.now in

@@ -9,6 +9,12 @@ use Rattle.model.proofs.calls.Places.{check_place}
 use Rattle.sketch_feed.proofs.Batch.{ready}
 use Rattle.sketch.proofs.Outcomes.{feed_no}
 use Rattle.sketch.proofs.feed.Goals as goal
+use Rattle.sketch.proofs.feed.Goals.{Else-number-ne0}
+
+passed : (c : Else-number-ne0) → let a = c.args in
+    check_no (scratch_fits a.sketch.kind (length a.aux.now) (length a.scratch.now)) a.sketch a.regs.now a.aux.now ≡ 0
+passed c =
+    sym c.check-answer.ensures ∙ sym c.number.ensures ∙ c.if-number-ne0.false
 
 pub returns-then-number-ne0 : goal.returns-then-number-ne0
 returns-then-number-ne0 c =
@@ -19,14 +25,8 @@ returns-then-number-ne0 c =
 
 pub feed-requires : goal.feed-requires
 feed-requires c =
-    let passed : let a = c.args in
-    check_no (scratch_fits a.sketch.kind (length a.aux.now) (length a.scratch.now)) a.sketch a.regs.now a.aux.now ≡ 0 =
-    sym c.check-answer.ensures ∙ sym c.number.ensures ∙ c.if-number-ne0.false in
-    ready _ _ _ _ passed (λ i. (c.slice_known-1.given i).fits)
+    ready _ _ _ _ (passed (goal.at.feed-requires c).Else-number-ne0) (λ i. (c.slice_known-1.given i).fits)
 
 pub returns : goal.returns
 returns c =
-    let passed : let a = c.args in
-    check_no (scratch_fits a.sketch.kind (length a.aux.now) (length a.scratch.now)) a.sketch a.regs.now a.aux.now ≡ 0 =
-    sym c.check-answer.ensures ∙ sym c.number.ensures ∙ c.if-number-ne0.false in
-    c.feed.ensures ∙ sym (feed_is _ _ _ _ _ passed)
+    c.feed.ensures ∙ sym (feed_is _ _ _ _ _ (passed (goal.at.returns c).Else-number-ne0))

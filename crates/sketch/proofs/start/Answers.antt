@@ -11,6 +11,11 @@ use Rattle.model.proofs.calls.Ladder.{shape_says}
 use Rattle.model.proofs.calls.Places.{shape_place}
 use Rattle.sketch.proofs.Outcomes.{start_no, start_ok}
 use Rattle.sketch.proofs.start.Goals as goal
+use Rattle.sketch.proofs.start.Goals.{Else-number-ne0}
+
+passed : (c : Else-number-ne0) → let a = c.args in shape_no a.kind a.lg_k (length a.regs.now) ≡ 0
+passed c =
+    sym c.check_shape-answer.ensures ∙ sym c.number.ensures ∙ c.if-number-ne0.false
 
 pub returns-then-number-ne0 : goal.returns-then-number-ne0
 returns-then-number-ne0 c =
@@ -20,19 +25,13 @@ returns-then-number-ne0 c =
 
 pub num_registers-k-requires : goal.num_registers-k-requires
 num_registers-k-requires c =
-    let passed : let a = c.args in shape_no a.kind a.lg_k (length a.regs.now) ≡ 0 =
-    sym c.check_shape-answer.ensures ∙ sym c.number.ensures ∙ c.if-number-ne0.false in
-    ((shape_says _ _ _).0 passed).high
+    ((shape_says _ _ _).0 (passed c)).high
 
 pub overflow_cast-k : goal.overflow_cast-k
 overflow_cast-k c =
-    let passed : let a = c.args in shape_no a.kind a.lg_k (length a.regs.now) ≡ 0 =
-    sym c.check_shape-answer.ensures ∙ sym c.number.ensures ∙ c.if-number-ne0.false in
-    let most : 2 ^ c.args.lg_k ≤ 2 ^ 21 = pow_mono ((shape_says _ _ _).0 passed).high in
+    let most : 2 ^ c.args.lg_k ≤ 2 ^ 21 = pow_mono ((shape_says _ _ _).0 (passed (goal.at.overflow_cast-k c).Else-number-ne0)).high in
     omega (arith, c.num_registers-k.ensures)
 
 pub returns : goal.returns
 returns c =
-    let passed : let a = c.args in shape_no a.kind a.lg_k (length a.regs.now) ≡ 0 =
-    sym c.check_shape-answer.ensures ∙ sym c.number.ensures ∙ c.if-number-ne0.false in
-    start_ok _ _ _ _ passed c.num_registers-k.ensures c.plain.ensures c.clear.ensures c.clear_area.ensures
+    start_ok _ _ _ _ (passed (goal.at.returns c).Else-number-ne0) c.num_registers-k.ensures c.plain.ensures c.clear.ensures c.clear_area.ensures

@@ -8,6 +8,15 @@ use Rattle.model.proofs.calls.Has.{check_ok}
 use Rattle.block_counts.proofs.Turns.{good_few}
 use Rattle.sketch_sums.proofs.Outcomes.{sums_no, sums_ok}
 use Rattle.sketch_sums.proofs.sums.Goals as goal
+use Rattle.sketch_sums.proofs.sums.Goals.{Else-answer-ne0}
+
+passed : (c : Else-answer-ne0) → let a = c.args in check_no true a.sketch a.regs.now a.aux.now ≡ 0
+passed c =
+    sym c.check.ensures ∙ sym c.number-answer.ensures ∙ c.if-answer-ne0.false
+
+good : (c : Else-answer-ne0) → let a = c.args in Good a.sketch a.regs.now a.aux.now
+good c =
+    check_ok _ _ _ _ (λ i. (c.type_inv.regs i).fits) (passed c)
 
 pub returns-then-answer-ne0 : goal.returns-then-answer-ne0
 unfolding of_bits
@@ -15,22 +24,12 @@ returns-then-answer-ne0 c = sums_no _ _ _ (c.number-answer.ensures ∙ c.check.e
 
 pub counts-requires : goal.counts-requires
 counts-requires c =
-    let passed : let a = c.args in check_no true a.sketch a.regs.now a.aux.now ≡ 0 =
-    sym c.check.ensures ∙ sym c.number-answer.ensures ∙ c.if-answer-ne0.false in
-    let good : let a = c.args in Good a.sketch a.regs.now a.aux.now =
-    check_ok _ _ _ _ (λ i. (c.type_inv.regs i).fits) passed in
-    good
+    good c
 
 pub from_counts-requires : goal.from_counts-requires
 from_counts-requires c =
-    let passed : let a = c.args in check_no true a.sketch a.regs.now a.aux.now ≡ 0 =
-    sym c.check.ensures ∙ sym c.number-answer.ensures ∙ c.if-answer-ne0.false in
-    let good : let a = c.args in Good a.sketch a.regs.now a.aux.now =
-    check_ok _ _ _ _ (λ i. (c.type_inv.regs i).fits) passed in
-    good_few _ _ _ good c.counts.ensures
+    good_few _ _ _ (good (goal.at.from_counts-requires c).Else-answer-ne0) c.counts.ensures
 
 pub returns : goal.returns
 returns c =
-    let passed : let a = c.args in check_no true a.sketch a.regs.now a.aux.now ≡ 0 =
-    sym c.check.ensures ∙ sym c.number-answer.ensures ∙ c.if-answer-ne0.false in
-    sums_ok _ _ _ passed (c.from_counts.ensures _ c.counts.ensures)
+    sums_ok _ _ _ (passed (goal.at.returns c).Else-answer-ne0) (c.from_counts.ensures _ c.counts.ensures)

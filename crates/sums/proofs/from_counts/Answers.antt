@@ -12,6 +12,7 @@ use Rattle.model.proofs.calls.Doubles.{scaled_le}
 use Rattle.sums.proofs.Dyadic.{ratio_div}
 use Rattle.sums.proofs.from_counts.Goals as goal
 
+-- a whole number of so few registers
 below : (from n : ℕ) (cs : List ℕ) → FewCounted cs → ((R : List ℕ) → Counted R cs → n ≡ scaled from R) → n ≤ 2 ^ 53
 below from n cs f e = omega (arith, e f.regs f.counted, scaled_le from f.regs f.few)
 

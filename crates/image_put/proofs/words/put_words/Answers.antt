@@ -6,33 +6,30 @@ use lib.ListN.{length}
 use Rattle.image_put.specs.Parts.{over}
 use Rattle.image_put.proofs.Turns.{left_all, left_none, left_inside, left_passed, left_written}
 use Rattle.image_put.proofs.words.put_words.Goals as goal
+use Rattle.image_put.proofs.words.put_words.Goals.{In-loop-n}
+
+inside : (c : In-loop-n) → c.loop-n.i < length c.args.words.now
+inside c =
+    left_inside _ _ _ _ _ _ _ c.loop-n.invariant c.loop-n-test.true
 
 pub loop-n-init : goal.loop-n-init
 loop-n-init c = left_all _ _ _ _ c.requires.enough
 
 pub offset_bounds-words-i : goal.offset_bounds-words-i
 offset_bounds-words-i c =
-    let inside : c.loop-n.i < length c.args.words.now =
-    left_inside _ _ _ _ _ _ _ c.loop-n.invariant c.loop-n-test.true in
-    omega (arith, inside)
+    omega (arith, inside c)
 
 pub bounds-words-i : goal.bounds-words-i
 bounds-words-i c =
-    let inside : c.loop-n.i < length c.args.words.now =
-    left_inside _ _ _ _ _ _ _ c.loop-n.invariant c.loop-n-test.true in
-    inside
+    inside (goal.at.bounds-words-i c).In-loop-n
 
 pub overflow_add-i : goal.overflow_add-i
 overflow_add-i c =
-    let inside : c.loop-n.i < length c.args.words.now =
-    left_inside _ _ _ _ _ _ _ c.loop-n.invariant c.loop-n-test.true in
-    omega (arith, inside)
+    omega (arith, inside (goal.at.overflow_add-i c).In-loop-n)
 
 pub loop-n-smaller-then-not-is_empty : goal.loop-n-smaller-then-not-is_empty
 loop-n-smaller-then-not-is_empty c =
-    let inside : c.loop-n.i < length c.args.words.now =
-    left_inside _ _ _ _ _ _ _ c.loop-n.invariant c.loop-n-test.true in
-    omega (arith, inside)
+    omega (arith, inside (goal.at.loop-n-smaller-then-not-is_empty c).In-loop-n)
 
 pub loop-n-preserved-then-not-is_empty : goal.loop-n-preserved-then-not-is_empty
 loop-n-preserved-then-not-is_empty c =
@@ -42,9 +39,7 @@ loop-n-preserved-then-not-is_empty c =
 
 pub loop-n-smaller : goal.loop-n-smaller
 loop-n-smaller c =
-    let inside : c.loop-n.i < length c.args.words.now =
-    left_inside _ _ _ _ _ _ _ c.loop-n.invariant c.loop-n-test.true in
-    omega (arith, inside)
+    omega (arith, inside (goal.at.loop-n-smaller c).In-loop-n)
 
 pub loop-n-preserved : goal.loop-n-preserved
 loop-n-preserved c =
