@@ -1,4 +1,4 @@
-/* The public calls for C. Link dist/liblintelpear.a, which `./build` leaves; `rt lib` in crates/c_api writes the same as out/libc_api.a there.
+/* The public calls for C. Link dist/liblintelpear.a, which `./build` leaves; `rt lib --cpu=x86-64` in crates/c_api writes the same as out/libc_api.a.
  *
  * A record is five words: kind (4, 6 or 8), lg_k (4 to 21), cur_min, num_at_cur_min, aux_count. Slices are a pointer and a length in
  * elements. Every call answers for every content of its record and slices: it refuses what is not in good order, by the numbers below,
