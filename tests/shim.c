@@ -136,13 +136,6 @@ int fchmod(int fd, mode_t mode)
     return way == FAILS ? -1 : (int)ended(way, REAL(fchmod)(fd, mode));
 }
 
-/* The toolchain writes by this name where it can't start. */
-ssize_t __write(int fd, const void *from, size_t n)
-{
-    enum way way = turn_on("__write", fd);
-    return way == FAILS ? -1 : ended(way, REAL(__write)(fd, from, way == SHORT ? (n + 1) / 2 : n));
-}
-
 /* These three are in the library's code for files, and no run comes to them. */
 int fdatasync(int fd)
 {
