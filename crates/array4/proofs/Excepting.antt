@@ -1,13 +1,14 @@
 -- A value for a slot that makes it an exception or leaves it one: what `place` hands to the table's functions, and what they leave. Assumes nothing.
 use mathlib.Core.Path.{◌≡◌, refl, sym, ◌∙◌, ap, ap₂, subst, subst₂}
-use mathlib.Core.Bool.{Bool, true, false}
+use mathlib.Core.Bool.{Bool}
+use Rattle.std.specs.Prelude.{Some, None}
 use mathlib.Core.List.{List, [], ◌∷◌, ◌++◌}
 use Prim.Native.Nat.{ℕ, suc, ◌+◌, ◌-◌, ◌≤◌, ◌<◌}
 use native.Mathlib.Numerals.{add-one}
 use native.Mathlib.Omega.{arith}
 use lib.Dec.{eqb}
 use lib.ListN.{length, get_or, take, drop, replicate}
-use lib.Seq.{length_front, length-take-le}
+use lib.Seq.{length_front}
 use borrow.Author.Tests.{ne_eqb, le-ltb, le-leb, lt-leb}
 use Rattle.model.specs.Pick.{pick}
 use Rattle.model.specs.Coupon.{word}
@@ -61,23 +62,16 @@ module _ {s : Sketch} {regs aux scratch : List ℕ} {i raw v : ℕ} (p : Placeab
     front : take size aux ≡ (state_of s regs aux).table
     front = holds_front h size (size_is ∙ sym (size_some (base_for s.lg_k) (used a.table) kept.0) ∙ ap (table_size (base_for s.lg_k)) (sym h.counted))
 
-    pub replace_fits : size ≤ length aux
-    replace_fits = omega (arith, long, h.fits)
-
-    pub replace_part : size ≡ length (take size aux)
-    replace_part = sym (length-take-le size aux replace_fits)
-
     pub replaceable : Replaceable (take size aux) i v
     replaceable =
         subst (λ (t : List ℕ). Replaceable t i v) (sym front)
         (replace_met (base_for s.lg_k) low a.regs a.table (based s.lg_k (omega (arith, h.low)) (omega (arith, h.high))) (omega (arith, ok.few)) h.table i (place_inside p) (was_high p f) v p.small)
 
     pub placed_replace : (top : List ℕ) → top ≡ replace (take size aux) (word i v) → length top ≡ length (take size aux)
-        → Placed (put_of s regs aux i v) true s regs aux s regs (top ++ drop size aux)
+        → Placed (put_of s regs aux i v) (Some s) s regs aux regs (top ++ drop size aux)
     unfolding put4
     placed_replace top et el =
         rw (le-ltb v (low + 15) k, le-leb (low + 15) (get_or a.regs i 0) (was_high p f)) (
-          refl,
           refl,
           place_build p s.num_at_cur_min s.aux_count (replace a.table (word i v)) regs (top ++ drop size aux) (move_replace i v ok h.table (place_inside p) p.rises p.small (was_high p f))
               (sym (ap (λ (b : Bool). pick b (s.num_at_cur_min - 1) s.num_at_cur_min) (ne_eqb raw 0 (omega arith)))) (h.counted ∙ sym (replace_used i v ok h.table (place_inside p) p.rises p.small (was_high p f))) refl
@@ -100,11 +94,11 @@ module _ {s : Sketch} {regs aux scratch : List ℕ} {i raw v : ℕ} (p : Placeab
     need_is : need ≡ size_for (base_for s.lg_k) (suc (used (state_of s regs aux).table))
     need_is = en ∙ ap₂ size_for eb (add-one s.aux_count ∙ ap suc h.counted)
 
-    pub placed_none : length aux < need → Placed (put_of s regs aux i v) false s regs aux s regs aux
+    pub placed_none : length aux < need → Placed (put_of s regs aux i v) None s regs aux regs aux
     unfolding put4
     placed_none l =
         rw (le-ltb v (low + 15) k, lt-leb (low + 15) (get_or a.regs i 0) (was_low p f), lt-leb (size_for (base_for s.lg_k) (suc (used a.table))) (length aux) (omega (arith, need_is)))
-        (refl, record { sketch_is = refl; regs_are = refl; aux_is = refl })
+        (record { regs_are = refl; aux_is = refl })
 
     module _ (room : need ≤ length aux) where
       room' : size_for (base_for s.lg_k) (suc (used (state_of s regs aux).table)) ≤ length aux
@@ -129,11 +123,10 @@ module _ {s : Sketch} {regs aux scratch : List ℕ} {i raw v : ℕ} (p : Placeab
 
       pub placed_insert : (num : ℕ) (regs' : List ℕ) → num ≡ pick (eqb raw 0) (s.num_at_cur_min - 1) s.num_at_cur_min → Put 4 regs i 15 regs'
           → (r : ℕ) (aux' scratch' : List ℕ) → length aux' ≡ length aux → Inserted aux scratch size (word i v) r aux' scratch'
-          → Placed (put_of s regs aux i v) true s regs aux (sketch_of s.kind s.lg_k s.cur_min num (s.aux_count + 1)) regs' aux'
+          → Placed (put_of s regs aux i v) (Some (sketch_of s.kind s.lg_k s.cur_min num (s.aux_count + 1))) s regs aux regs' aux'
       unfolding put4 inserted
       placed_insert num regs' e put r aux' scratch' el ins =
           rw (le-ltb v (low + 15) k, lt-leb (low + 15) (get_or a.regs i 0) (was_low p f), le-leb (size_for (base_for s.lg_k) (suc (used a.table))) (length aux) room') (
-            refl,
             refl,
             place_build p num (s.aux_count + 1) new regs' aux' (move_insert i v ok h.table (place_inside p) p.rises p.small (was_low p f) k) e
                 (omega (arith, h.counted, inserted_used i v ok h.table (place_inside p) p.rises p.small (was_low p f) k)) put.long (put_slots p 15 regs' (omega arith) put)

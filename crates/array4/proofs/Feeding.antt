@@ -1,6 +1,6 @@
 -- The batch: i coupons are taken, and what is left of it gives what the whole gives. Assumes nothing.
 use mathlib.Core.Path.{◌≡◌, refl, sym, ◌∙◌, ap, ap₂, subst}
-use mathlib.Core.Bool.{Bool, true, false}
+use Rattle.std.specs.Prelude.{Some, None}
 use mathlib.Core.List.{List}
 use Prim.Native.Nat.{ℕ, ◌+◌, ◌≤◌, ◌<◌}
 use native.Mathlib.Omega.{arith}
@@ -11,22 +11,19 @@ use Rattle.model.specs.Steps.{Step, went, stopped, Ran, ran}
 use Rattle.model.specs.Four.{State, step4}
 use Rattle.model.specs.Calls.{Out, out, kept_out, state_of, step_of, batch_of}
 use Rattle.model.specs.declared.Sketch.{Sketch}
-use Rattle.model.proofs.table.FirstLaws.{true_not_false}
 use Rattle.model.proofs.calls.Steps.{plus, ran_begin, ran_went, ran_stop, ran_end}
 use Rattle.array4.specs.Held.{Rests}
 use Rattle.array4.specs.Update.{Untouched, Resting, Stepped, Feedable}
 use Rattle.array4.proofs.Holding.{holds_state, good_rests, good_bytes, rests_kept}
 
--- what one coupon tells, by whether it was taken
-stepped_went : (q : Step State) (took : Bool) (s : Sketch) (regs aux : List ℕ) (s' : Sketch) (regs' aux' : List ℕ) → Stepped q took s regs aux s' regs' aux' → took ≡ true
-    → (b : State) × (q ≡ went b) × Rests s.lg_k b s' regs' aux'
-stepped_went (went b) took s regs aux s' regs' aux' h e = (b, refl, h.1)
-stepped_went stopped took s regs aux s' regs' aux' h e = absurd (true_not_false e h.0)
+-- what one coupon tells, by its answer
+stepped_went : (q : Step State) (s : Sketch) (regs aux : List ℕ) (s' : Sketch) (regs' aux' : List ℕ) → Stepped q (Some s') s regs aux regs' aux' → (b : State) × (q ≡ went b) × Rests s.lg_k b s' regs' aux'
+stepped_went (went b) s regs aux s' regs' aux' h = (b, refl, h)
+stepped_went stopped s regs aux s' regs' aux' h = absurd h
 
-stepped_stopped : (q : Step State) (took : Bool) (s : Sketch) (regs aux : List ℕ) (s' : Sketch) (regs' aux' : List ℕ) → Stepped q took s regs aux s' regs' aux' → took ≡ false
-    → (q ≡ stopped) × Untouched s regs aux s' regs' aux'
-stepped_stopped (went b) took s regs aux s' regs' aux' h e = absurd (true_not_false h.0 e)
-stepped_stopped stopped took s regs aux s' regs' aux' h e = (refl, h.1)
+stepped_stopped : (q : Step State) (s : Sketch) (regs aux regs' aux' : List ℕ) → Stepped q None s regs aux regs' aux' → (q ≡ stopped) × Untouched regs aux regs' aux'
+stepped_stopped (went b) s regs aux regs' aux' h = absurd h
+stepped_stopped stopped s regs aux regs' aux' h = (refl, h)
 
 -- what the whole batch leaves, in an area that is as long as aux
 abbrev leaves : ℕ → List ℕ → Ran State → Out
@@ -57,16 +54,17 @@ module _ {lgk : ℕ} {a₀ : State} {aux₀ cs : List ℕ} {i : ℕ} {s : Sketch
     spare = l;
   }
 
-  module _ (l : i < length cs) (took : Bool) (s' : Sketch) (regs' aux' : List ℕ) (st : Stepped (step4 (base_for s.lg_k) (length aux) (state_of s regs aux) (get_or cs i 0)) took s regs aux s' regs' aux') where
+  module _ (l : i < length cs) where
     step_is : step4 (base_for s.lg_k) (length aux) (state_of s regs aux) (get_or cs i 0) ≡ step_of 4 lgk (length aux₀) f.state (get_or cs i 0)
     unfolding step_of
     step_is =
         ap (λ (k : ℕ). step4 (base_for k) (length aux) (state_of s regs aux) (get_or cs i 0)) f.rests.holds.size ∙ ap (λ (n : ℕ). step4 (base_for lgk) n (state_of s regs aux) (get_or cs i 0)) f.wide
         ∙ ap (λ (b : State). step4 (base_for lgk) (length aux₀) b (get_or cs i 0)) (holds_state f.rests.holds)
 
-    pub feeding_more : took ≡ true → Bytes regs' → length aux' ≡ length aux → Feeding lgk a₀ aux₀ cs (i + 1) s' regs' aux'
-    feeding_more e by la =
-        let q = stepped_went (step4 (base_for s.lg_k) (length aux) (state_of s regs aux) (get_or cs i 0)) took s regs aux s' regs' aux' st e in
+    pub feeding_more : (s' : Sketch) (regs' aux' : List ℕ) → Stepped (step4 (base_for s.lg_k) (length aux) (state_of s regs aux) (get_or cs i 0)) (Some s') s regs aux regs' aux' → Bytes regs' → length aux' ≡ length aux
+        → Feeding lgk a₀ aux₀ cs (i + 1) s' regs' aux'
+    feeding_more s' regs' aux' st by la =
+        let q = stepped_went (step4 (base_for s.lg_k) (length aux) (state_of s regs aux) (get_or cs i 0)) s regs aux s' regs' aux' st in
         record {
           upto = omega arith;
           state = q.0;
@@ -76,10 +74,10 @@ module _ {lgk : ℕ} {a₀ : State} {aux₀ cs : List ℕ} {i : ℕ} {s : Sketch
           going = f.going ∙ ran_went State (step_of 4 lgk (length aux₀)) f.state q.0 cs i l (sym step_is ∙ q.1);
         }
 
-    pub feeding_stop : took ≡ false → out 6 0 s' i regs' aux' ≡ leaves lgk aux₀ (ran (step_of 4 lgk (length aux₀)) a₀ cs)
-    feeding_stop e =
-        let q = stepped_stopped (step4 (base_for s.lg_k) (length aux) (state_of s regs aux) (get_or cs i 0)) took s regs aux s' regs' aux' st e in
-        ap (λ (x : Sketch). out 6 0 x i regs' aux') q.1.sketch_is ∙ ap₂ (λ (x y : List ℕ). out 6 0 s i x y) q.1.regs_are q.1.aux_is
+    pub feeding_stop : (regs' aux' : List ℕ) → Stepped (step4 (base_for s.lg_k) (length aux) (state_of s regs aux) (get_or cs i 0)) None s regs aux regs' aux' → out 6 0 s i regs' aux' ≡ leaves lgk aux₀ (ran (step_of 4 lgk (length aux₀)) a₀ cs)
+    feeding_stop regs' aux' st =
+        let q = stepped_stopped (step4 (base_for s.lg_k) (length aux) (state_of s regs aux) (get_or cs i 0)) s regs aux regs' aux' st in
+        ap₂ (λ (x y : List ℕ). out 6 0 s i x y) q.1.regs_are q.1.aux_is
         ∙ rests_kept f.rests f.bytes 6 i aux₀ f.wide
         ∙ ap (leaves lgk aux₀) (sym (f.going ∙ ran_stop State (step_of 4 lgk (length aux₀)) f.state cs i l (sym step_is ∙ q.0)))
 

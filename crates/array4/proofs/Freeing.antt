@@ -1,8 +1,7 @@
 -- The slots that are freed where cur_min rises: what the loop of `free` has done after its first words. Assumes nothing.
-use mathlib.Core.Path.{◌≡◌, refl, sym, ◌∙◌, ap}
+use mathlib.Core.Path.{◌≡◌, sym, ◌∙◌, ap}
 use mathlib.Core.List.{List}
 use Prim.Native.Nat.{ℕ, ◌+◌, ◌<◌}
-use native.Mathlib.Nat.{not-suc-le-zero}
 use native.Mathlib.Omega.{arith}
 use native.Mathlib.Decide.{ℕ_discrete}
 use lib.ListN.{get_or}
@@ -10,9 +9,6 @@ use Rattle.model.specs.Coupon.{slot, value}
 use Rattle.model.specs.Packed.{slot_at, Put}
 use Rattle.model.proofs.packing.Packing.{put_same, put_other}
 use Rattle.array4.specs.Rise.{Freed}
-
-pub freed_none : (t : List ℕ) (v : ℕ) (before : List ℕ) → Freed t v 0 before before
-freed_none t v before = record { long = refl; moved = λ p h e. absurd (not-suc-le-zero h); left = λ s f. refl }
 
 module _ {t : List ℕ} {v n : ℕ} {before now : List ℕ} (f : Freed t v n before now) where
   pub freed_skip : (value (get_or t n 0) ≡ v → ⊥) → Freed t v (n + 1) before now

@@ -2,6 +2,7 @@
 use mathlib.Core.Path.{◌≡◌, refl, sym, ◌∙◌, ap, subst}
 use mathlib.Core.Bool.{Bool, true, false}
 use mathlib.Core.List.{List}
+use mir.Val.{bool_byte}
 use Prim.Native.Nat.{ℕ, suc, ◌+◌, ◌-◌, ◌*◌, ◌/◌, ◌%◌, ◌≤◌, ◌<◌}
 use native.Mathlib.Nat.{not-suc-le-zero, le_refl}
 use native.Mathlib.Omega.{arith}
@@ -32,14 +33,6 @@ lowered_lt n h = go (ltb n 15)
     go true = omega arith
     go false = h
 
--- what is taken off a nibble
-pub lowered_less : (n l : ℕ) → 0 < n → l ≡ pick (ltb n 15) 1 0 → (l ≤ 1) × (n - l ≡ lowered n)
-lowered_less n l h = go (ltb n 15)
-  where
-    go : (b : Bool) → l ≡ pick b 1 0 → (l ≤ 1) × (n - l ≡ pick b (n - 1) n)
-    go true e = (omega arith, omega arith)
-    go false e = (omega arith, omega arith)
-
 module _ (b : ℕ) (h : b < 256) where
   low_half : lowered_byte b % 16 ≡ lowered (b % 16)
   low_half = let k = lowered_lt (b % 16) (omega arith) in omega arith
@@ -50,17 +43,24 @@ module _ (b : ℕ) (h : b < 256) where
   lowered_byte_lem : lowered_byte b < 256
   lowered_byte_lem = let k = lowered_lt (b % 16) (omega arith) in let m = lowered_lt (b / 16) (omega arith) in omega arith
 
+-- a test as a number
+pub picked : (b : Bool) → bool_byte b ≡ pick b 1 0
+picked true = refl
+picked false = refl
+
 -- ---- the loop: the first bytes are done, and n of their nibbles are zero
 pub record Lowering (before now : List ℕ) (n at : ℕ) : Type 0 where
+  pub bytes : Bytes before
   pub long : length now ≡ length before
   pub upto : at ≤ length before
   pub done : (i : ℕ) → i < at → get_or now i 0 ≡ lowered_byte (get_or before i 0)
   pub rest : (i : ℕ) → at ≤ i → get_or now i 0 ≡ get_or before i 0
   pub tally : n ≡ marks (λ s. eqb (lowered (slot_at 4 before s)) 0) (2 * at)
 
-pub lowering_none : (before : List ℕ) → Lowering before before 0 0
+pub lowering_none : (before : List ℕ) → Bytes before → Lowering before before 0 0
 unfolding marks
-lowering_none before = record {
+lowering_none before by = record {
+  bytes = by;
   long = refl;
   upto = omega arith;
   done = λ i h. absurd (not-suc-le-zero h);
@@ -68,7 +68,10 @@ lowering_none before = record {
   tally = refl;
 }
 
-module _ {before now : List ℕ} {n at : ℕ} (by : Bytes before) (l : Lowering before now n at) where
+module _ {before now : List ℕ} {n at : ℕ} (l : Lowering before now n at) where
+  by : Bytes before
+  by = l.bytes
+
   pub lowering_few : n ≤ 2 * at
   lowering_few = omega (arith, l.tally, marks_le (λ s. eqb (lowered (slot_at 4 before s)) 0) (2 * at))
 
@@ -86,6 +89,7 @@ module _ {before now : List ℕ} {n at : ℕ} (by : Bytes before) (l : Lowering 
         → Lowering before (set now at b) (n + (even + odd)) (at + 1)
     unfolding marks
     lowering_more b even odd eb ee eo = record {
+      bytes = by;
       long = length-set now at b ∙ l.long;
       upto = omega arith;
       done = λ i k. done i k (ℕ_discrete i at);

@@ -1,6 +1,7 @@
 -- A value put at a slot, in record, bytes and area, before any rise: what is the same in each case, and the case of no exception. Assumes nothing.
 use mathlib.Core.Path.{◌≡◌, refl, sym, ◌∙◌, ap, subst}
-use mathlib.Core.Bool.{Bool, true}
+use mathlib.Core.Bool.{Bool}
+use Rattle.std.specs.Prelude.{Some}
 use mathlib.Core.List.{List}
 use Prim.Native.Nat.{ℕ, ◌+◌, ◌-◌, ◌*◌, ◌^◌, ◌≤◌, ◌<◌}
 use native.Mathlib.Omega.{arith}
@@ -123,11 +124,10 @@ module _ {s : Sketch} {regs aux scratch : List ℕ} {i raw v : ℕ} (p : Placeab
 
   -- ---- no exception, before or after
   pub placed_plain : v < s.cur_min + 15 → (num : ℕ) (regs' : List ℕ) → num ≡ pick (eqb raw 0) (s.num_at_cur_min - 1) s.num_at_cur_min → Put 4 regs i (v - s.cur_min) regs'
-      → Placed (put_of s regs aux i v) true s regs aux (sketch_of s.kind s.lg_k s.cur_min num s.aux_count) regs' aux
+      → Placed (put_of s regs aux i v) (Some (sketch_of s.kind s.lg_k s.cur_min num s.aux_count)) s regs aux regs' aux
   unfolding put4
   placed_plain k num regs' e put =
       rw (lt-ltb v (low + 15) k) (
-        refl,
         refl,
         place_build num s.aux_count a.table regs' aux (move_plain i v ok h.table place_inside p.rises p.small k) e h.counted put.long
             (put_slots (v - low) regs' (let f = value_above in omega arith) put) h.fits h.area,

@@ -2,12 +2,11 @@
 use mathlib.Core.Path.{◌≡◌, refl, sym, ◌∙◌, ap, subst}
 use mathlib.Core.Bool.{Bool, true, false}
 use mathlib.Core.List.{List}
-use Prim.Native.Nat.{ℕ, ◌+◌, ◌≤◌, ◌<◌}
+use Prim.Native.Nat.{ℕ, ◌≤◌}
 use native.Mathlib.Omega.{arith}
 use lib.Dec.{eqb}
 use lib.ListN.{length, take}
-use lib.Seq.{length-take-le}
-use borrow.Author.Tests.{lt-ltb, le-ltb, eqb-true}
+use borrow.Author.Tests.{le-ltb, eqb-true}
 use Rattle.model.specs.Pick.{pick}
 use Rattle.model.specs.Coupon.{value}
 use Rattle.model.specs.Table.{base_for, table_size, Room, word_at}
@@ -17,29 +16,19 @@ use Rattle.model.specs.declared.Sketch.{Sketch}
 use Rattle.model.proofs.four.FourLaws.{four_table}
 use Rattle.aux_map.specs.Sizes.{Sizable}
 use Rattle.aux_map.specs.Search.{gets}
-use Rattle.aux_map.specs.declared.Got.TheVariants.{Value, Missing}
+use Rattle.std.specs.Prelude.{Some, None}
+use Rattle.std.specs.Option.{unwrap_or}
 use Rattle.aux_map.proofs.Bases.{sizable}
 use Rattle.array4.specs.Update.{Readable}
 
-pub by_nibble : (low : ℕ) (t : List ℕ) (raw i : ℕ) → raw < 15 → low + raw ≡ value_at low t raw i
-by_nibble low t raw i h = rw (lt-ltb raw 15 h)
-
--- the answer of the table, as a value
-answered : (t : List ℕ) (i : ℕ) (v : ℕ) → gets t i ≡ Value v → v ≡ value (word_at t i)
+-- the answer of the table, as a value: 0 is the empty word's
+answered : (t : List ℕ) (i : ℕ) → unwrap_or (gets t i) 0 ≡ value (word_at t i)
 unfolding gets
-answered t i v = go (eqb (word_at t i) 0)
+answered t i = go (eqb (word_at t i) 0) refl
   where
-    go : (b : Bool) → pick b Missing (Value (value (word_at t i))) ≡ Value v → v ≡ value (word_at t i)
-    go true e = let z : ◌≡◌ {A = ℕ} 0 1 = cc in absurd (omega arith)
-    go false e = cc
-
-missing : (t : List ℕ) (i : ℕ) → gets t i ≡ Missing → 0 ≡ value (word_at t i)
-unfolding gets
-missing t i = go (eqb (word_at t i) 0) refl
-  where
-    go : (b : Bool) → eqb (word_at t i) 0 ≡ b → pick b Missing (Value (value (word_at t i))) ≡ Missing → 0 ≡ value (word_at t i)
-    go true q e = omega (arith, eqb-true (word_at t i) 0 q)
-    go false q e = let z : ◌≡◌ {A = ℕ} 0 1 = cc in absurd (omega arith)
+    go : (b : Bool) → eqb (word_at t i) 0 ≡ b → unwrap_or (pick b None (Some (value (word_at t i)))) 0 ≡ value (word_at t i)
+    go true q = omega (arith, eqb-true (word_at t i) 0 q)
+    go false q = refl
 
 module _ {s : Sketch} {aux : List ℕ} {raw : ℕ} (r : Readable s aux raw) (base : ℕ) (eb : base ≡ base_for s.lg_k) where
   pub sized : Sizable base s.aux_count
@@ -52,9 +41,6 @@ module _ {s : Sketch} {aux : List ℕ} {raw : ℕ} (r : Readable s aux raw) (bas
     fits : size ≤ length aux
     fits = omega (arith, is, r.fits)
 
-    pub part : size ≡ length (take size aux)
-    part = sym (length-take-le size aux fits)
-
     front : take size aux ≡ table_in s aux
     front = ap (λ (n : ℕ). take n aux) is ∙ sym (four_table s aux aux r.kind)
 
@@ -62,12 +48,5 @@ module _ {s : Sketch} {aux : List ℕ} {raw : ℕ} (r : Readable s aux raw) (bas
       pub room : Room (take size aux)
       room = subst Room (sym front) (r.room high)
 
-      module _ (i : ℕ) where
-        by_table : (v : ℕ) → v ≡ value (word_at (take size aux) i) → v ≡ value_at s.cur_min (table_in s aux) raw i
-        by_table v e = rw (le-ltb raw 15 high) (e ∙ ap (λ (t : List ℕ). value (word_at t i)) front)
-
-        pub by_answer : (v : ℕ) → gets (take size aux) i ≡ Value v → v ≡ value_at s.cur_min (table_in s aux) raw i
-        by_answer v e = by_table v (answered (take size aux) i v e)
-
-        pub by_none : gets (take size aux) i ≡ Missing → 0 ≡ value_at s.cur_min (table_in s aux) raw i
-        by_none e = by_table 0 (missing (take size aux) i e)
+      pub by_table : (i v : ℕ) → v ≡ unwrap_or (gets (take size aux) i) 0 → v ≡ value_at s.cur_min (table_in s aux) raw i
+      by_table i v e = rw (le-ltb raw 15 high) (e ∙ answered (take size aux) i ∙ ap (λ (t : List ℕ). value (word_at t i)) front)

@@ -106,10 +106,10 @@ module _ {lgk : ℕ} {a : State} {s : Sketch} {regs aux : List ℕ} (h : Holds l
         t = risen (base_for lgk) (suc s.cur_min) a.table
 
     -- no exceptions
-    pub rose_plain : s.aux_count ≡ 0 → Rose lgk s.cur_min a (sketch_of s.kind s.lg_k (s.cur_min + 1) num 0) mid aux
+    pub rose_plain : s.aux_count ≡ 0 → Rose lgk s.cur_min a (sketch_of s.kind s.lg_k (s.cur_min + 1) num s.aux_count) mid aux
     unfolding risen
     rose_plain z =
-        rise_build 0 mid aux (sym (ap used none' ∙ used_zeros 0)) l.long (λ i k. mid_slot i k ∙ low_nibble s.cur_min (get_or a.regs i 0) (rise_floor i k) (plain i k)) refl (h.area ∙ ap (laid (length aux)) (empty ∙ sym none'))
+        rise_build s.aux_count mid aux (z ∙ sym (ap used none' ∙ used_zeros 0)) l.long (λ i k. mid_slot i k ∙ low_nibble s.cur_min (get_or a.regs i 0) (rise_floor i k) (plain i k)) refl (h.area ∙ ap (laid (length aux)) (empty ∙ sym none'))
       where
         empty : a.table ≡ []
         empty = go h.table.shape

@@ -1,6 +1,7 @@
 -- One coupon, in record, bytes and area: what `update` hands to its parts, and what each way out leaves. Assumes nothing.
 use mathlib.Core.Path.{◌≡◌, refl, sym, ◌∙◌, ap, ap₂, subst, subst₂}
-use mathlib.Core.Bool.{Bool, true, false}
+use mathlib.Core.Bool.{Bool}
+use Rattle.std.specs.Prelude.{Some, None}
 use mathlib.Core.List.{List}
 use Prim.Native.Nat.{ℕ, ◌+◌, ◌*◌, ◌^◌, ◌≤◌, ◌<◌}
 use native.Mathlib.Nat.{mod-lt}
@@ -17,8 +18,6 @@ use Rattle.model.specs.Four.{State, value_at, put4, step4, settled}
 use Rattle.model.specs.Sketch.{table_in}
 use Rattle.model.specs.Calls.{state_of}
 use Rattle.model.specs.declared.Sketch.{Sketch}
-use Rattle.model.proofs.table.FirstLaws.{true_not_false}
-use Rattle.model.proofs.packing.Packing.{slot_lt}
 use Rattle.model.proofs.table.Shape.{shape_size}
 use Rattle.aux_map.proofs.Bases.{based}
 use Rattle.aux_table.proofs.Requires.{find_met}
@@ -27,16 +26,15 @@ use Rattle.array4.specs.Rise.{settled_of}
 use Rattle.array4.specs.Update.{Readable, Placeable, Placed, Untouched, Resting, Stepped, put_of}
 use Rattle.array4.proofs.Holding.{holds_sized, holds_few, holds_most, holds_table, holds_value, holds_state, holds_held}
 
--- what a value put tells, by whether it was taken
-placed_went : (q : Step State) (took : Bool) (s : Sketch) (regs aux : List ℕ) (s' : Sketch) (regs' aux' : List ℕ) → Placed q took s regs aux s' regs' aux' → took ≡ true
+-- what a value put tells, by its answer
+placed_went : (q : Step State) (s : Sketch) (regs aux : List ℕ) (s' : Sketch) (regs' aux' : List ℕ) → Placed q (Some s') s regs aux regs' aux'
     → (b : State) × (q ≡ went b) × (s'.cur_min ≡ s.cur_min) × Holds s.lg_k b s' regs' aux'
-placed_went (went b) took s regs aux s' regs' aux' h e = (b, refl, h.1, h.2)
-placed_went stopped took s regs aux s' regs' aux' h e = absurd (true_not_false e h.0)
+placed_went (went b) s regs aux s' regs' aux' h = (b, refl, h.0, h.1)
+placed_went stopped s regs aux s' regs' aux' h = absurd h
 
-placed_stopped : (q : Step State) (took : Bool) (s : Sketch) (regs aux : List ℕ) (s' : Sketch) (regs' aux' : List ℕ) → Placed q took s regs aux s' regs' aux' → took ≡ false
-    → (q ≡ stopped) × Untouched s regs aux s' regs' aux'
-placed_stopped (went b) took s regs aux s' regs' aux' h e = absurd (true_not_false h.0 e)
-placed_stopped stopped took s regs aux s' regs' aux' h e = (refl, h.1)
+placed_stopped : (q : Step State) (s : Sketch) (regs aux regs' aux' : List ℕ) → Placed q None s regs aux regs' aux' → (q ≡ stopped) × Untouched regs aux regs' aux'
+placed_stopped (went b) s regs aux regs' aux' h = absurd h
+placed_stopped stopped s regs aux regs' aux' h = (refl, h)
 
 module _ {s : Sketch} {regs aux scratch : List ℕ} (r : Resting s regs aux scratch) (c v : ℕ) (ev : v ≡ value c) where
   abbrev a : State
@@ -49,11 +47,11 @@ module _ {s : Sketch} {regs aux scratch : List ℕ} (r : Resting s regs aux scra
   home_in = mod-lt (slot c) (holds_sized r.rests.holds).some
 
   -- no effect
-  same : value c ≤ get_or (state_of s regs aux).regs (home (length (state_of s regs aux).regs) c) 0 → Stepped (step4 (base_for s.lg_k) (length aux) (state_of s regs aux) c) true s regs aux s regs aux
+  same : value c ≤ get_or (state_of s regs aux).regs (home (length (state_of s regs aux).regs) c) 0 → Stepped (step4 (base_for s.lg_k) (length aux) (state_of s regs aux) c) (Some s) s regs aux regs aux
   unfolding step4
-  same l = rw (le-leb (value c) (get_or a.regs (home (length a.regs) c) 0) l) (refl, r.rests)
+  same l = rw (le-leb (value c) (get_or a.regs (home (length a.regs) c) 0) l) r.rests
 
-  pub same_low : v ≤ s.cur_min → Stepped (step4 (base_for s.lg_k) (length aux) (state_of s regs aux) c) true s regs aux s regs aux
+  pub same_low : v ≤ s.cur_min → Stepped (step4 (base_for s.lg_k) (length aux) (state_of s regs aux) c) (Some s) s regs aux regs aux
   same_low l = same (omega (arith, ev, h.floor _ home_in))
 
   module _ (i : ℕ) (ei : i ≡ home (2 ^ s.lg_k) c) where
@@ -67,13 +65,10 @@ module _ {s : Sketch} {regs aux scratch : List ℕ} (r : Resting s regs aux scra
     slot_in = omega (arith, inside, h.long)
 
     module _ (raw : ℕ) (er : raw ≡ slot_at 4 regs i) where
-      same_at : v ≤ get_or (state_of s regs aux).regs i 0 → Stepped (step4 (base_for s.lg_k) (length aux) (state_of s regs aux) c) true s regs aux s regs aux
+      same_at : v ≤ get_or (state_of s regs aux).regs i 0 → Stepped (step4 (base_for s.lg_k) (length aux) (state_of s regs aux) c) (Some s) s regs aux regs aux
       same_at l = same (subst₂ (λ (x n : ℕ). x ≤ get_or a.regs n 0) ev i_is l)
 
-      pub bound_fits : raw + s.cur_min < 256
-      bound_fits = omega (arith, er, slot_lt 4 regs i, holds_most h)
-
-      pub same_raw : v ≤ raw + s.cur_min → Stepped (step4 (base_for s.lg_k) (length aux) (state_of s regs aux) c) true s regs aux s regs aux
+      pub same_raw : v ≤ raw + s.cur_min → Stepped (step4 (base_for s.lg_k) (length aux) (state_of s regs aux) c) (Some s) s regs aux regs aux
       same_raw l = same_at (omega (arith, er, h.slots i inside, h.floor i inside))
 
       pub readable : Readable s aux raw
@@ -93,7 +88,7 @@ module _ {s : Sketch} {regs aux scratch : List ℕ} (r : Resting s regs aux scra
         old_is : old ≡ get_or (state_of s regs aux).regs i 0
         old_is = eo ∙ holds_value h i raw slot_in er
 
-        pub same_old : v ≤ old → Stepped (step4 (base_for s.lg_k) (length aux) (state_of s regs aux) c) true s regs aux s regs aux
+        pub same_old : v ≤ old → Stepped (step4 (base_for s.lg_k) (length aux) (state_of s regs aux) c) (Some s) s regs aux regs aux
         same_old l = same_at (omega (arith, old_is))
 
         module _ (l : old < v) where
@@ -115,22 +110,19 @@ module _ {s : Sketch} {regs aux scratch : List ℕ} (r : Resting s regs aux scra
               above : get_or (state_of s regs aux).regs (home (length (state_of s regs aux).regs) c) 0 < value c
               above = subst₂ (λ (n x : ℕ). get_or a.regs n 0 < x) i_is ev (omega (arith, old_is))
 
-          module _ (took : Bool) (s' : Sketch) (regs' aux' : List ℕ) (pl : Placed (put_of s regs aux i v) took s regs aux s' regs' aux') where
-            pub refused : took ≡ false → Stepped (step4 (base_for s.lg_k) (length aux) (state_of s regs aux) c) took s regs aux s' regs' aux'
-            refused e =
-                let q = placed_stopped (put_of s regs aux i v) took s regs aux s' regs' aux' pl e in
-                subst (λ (t : Step State). Stepped t took s regs aux s' regs' aux') (sym (step_is stopped q.0)) (e, q.1)
+          pub refused : (regs' aux' : List ℕ) → Placed (put_of s regs aux i v) None s regs aux regs' aux' → Stepped (step4 (base_for s.lg_k) (length aux) (state_of s regs aux) c) None s regs aux regs' aux'
+          refused regs' aux' pl =
+              let q = placed_stopped (put_of s regs aux i v) s regs aux regs' aux' pl in
+              subst (λ (t : Step State). Stepped t None s regs aux regs' aux') (sym (step_is stopped q.0)) q.1
 
-            module _ (e : took ≡ true) where
-              pub holding : (scratch' : List ℕ) → length aux' ≤ length scratch' → Held s' regs' aux' scratch'
-              holding scratch' k = holds_held (placed_went (put_of s regs aux i v) took s regs aux s' regs' aux' pl e).3 scratch' k
+          module _ (s' : Sketch) (regs' aux' : List ℕ) (pl : Placed (put_of s regs aux i v) (Some s') s regs aux regs' aux') where
+            pub holding : (scratch' : List ℕ) → length aux' ≤ length scratch' → Held s' regs' aux' scratch'
+            holding scratch' k = holds_held (placed_went (put_of s regs aux i v) s regs aux s' regs' aux' pl).3 scratch' k
 
-              pub stepped : {s'' : Sketch} {regs'' aux'' : List ℕ} → Rests s'.lg_k (settled_of s' regs' aux') s'' regs'' aux''
-                  → Stepped (step4 (base_for s.lg_k) (length aux) (state_of s regs aux) c) true s regs aux s'' regs'' aux''
-              stepped {s''} {regs''} {aux''} rests =
-                  let q = placed_went (put_of s regs aux i v) took s regs aux s' regs' aux' pl e in
-                  subst (λ (t : Step State). Stepped t true s regs aux s'' regs'' aux'') (sym (step_is (went q.0) q.1)) (
-                    refl,
-                    subst₂ (λ (k n : ℕ). Rests k (settled (base_for k) n q.0.regs q.0.table) s'' regs'' aux'') q.3.size q.2
-                        (subst (λ (x : State). Rests s'.lg_k (settled (base_for s'.lg_k) s'.cur_min x.regs x.table) s'' regs'' aux'') (holds_state q.3) rests),
-                  )
+            pub stepped : {s'' : Sketch} {regs'' aux'' : List ℕ} → Rests s'.lg_k (settled_of s' regs' aux') s'' regs'' aux''
+                → Stepped (step4 (base_for s.lg_k) (length aux) (state_of s regs aux) c) (Some s'') s regs aux regs'' aux''
+            stepped {s''} {regs''} {aux''} rests =
+                let q = placed_went (put_of s regs aux i v) s regs aux s' regs' aux' pl in
+                subst (λ (t : Step State). Stepped t (Some s'') s regs aux regs'' aux'') (sym (step_is (went q.0) q.1))
+                (subst₂ (λ (k n : ℕ). Rests k (settled (base_for k) n q.0.regs q.0.table) s'' regs'' aux'') q.3.size q.2
+                (subst (λ (x : State). Rests s'.lg_k (settled (base_for s'.lg_k) s'.cur_min x.regs x.table) s'' regs'' aux'') (holds_state q.3) rests))

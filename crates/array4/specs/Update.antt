@@ -1,5 +1,5 @@
 -- One coupon, and what a batch of them asks.
-use Rattle.std.specs.Prelude.{◌≡◌, Bool, true, false, List, ℕ, ◌*◌, ◌^◌, ◌≤◌, ◌<◌, length, get_or}
+use Rattle.std.specs.Prelude.{◌≡◌, Option, Some, None, List, ℕ, ◌*◌, ◌^◌, ◌≤◌, ◌<◌, length, get_or}
 use Rattle.model.specs.Packed.{slot_at}
 use Rattle.model.specs.Table.{base_for, table_size, Room}
 use Rattle.model.specs.Steps.{Step, went, stopped}
@@ -31,26 +31,29 @@ pub record Placeable (s : Sketch) (regs aux scratch : List ℕ) (i raw v : ℕ) 
 abbrev pub put_of : Sketch → List ℕ → List ℕ → ℕ → ℕ → Step State
 put_of s regs aux i v = put4 (base_for s.lg_k) (length aux) s.cur_min (state_of s regs aux).regs (state_of s regs aux).table i v
 
--- all is as it was
-pub record Untouched (s : Sketch) (regs aux : List ℕ) (s' : Sketch) (regs' aux' : List ℕ) : Type 0 where
-  pub sketch_is : s' ≡ s
+-- all memory is as it was
+pub record Untouched (regs aux regs' aux' : List ℕ) : Type 0 where
   pub regs_are : regs' ≡ regs
   pub aux_is : aux' ≡ aux
 
--- what a value put leaves, before the rises, at the old cur_min; where there is no room, all as it was
-abbrev pub Placed : Step State → Bool → Sketch → List ℕ → List ℕ → Sketch → List ℕ → List ℕ → Type 0
-Placed (went b) took s regs aux s' regs' aux' = (took ≡ true) × (s'.cur_min ≡ s.cur_min) × Holds s.lg_k b s' regs' aux'
-Placed stopped took s regs aux s' regs' aux' = (took ≡ false) × Untouched s regs aux s' regs' aux'
+-- what a value put leaves, before the rises, at the old cur_min; None where there is no room, all as it was
+abbrev pub Placed : Step State → Option Sketch → Sketch → List ℕ → List ℕ → List ℕ → List ℕ → Type 0
+Placed (went b) (Some s') s regs aux regs' aux' = (s'.cur_min ≡ s.cur_min) × Holds s.lg_k b s' regs' aux'
+Placed (went b) None s regs aux regs' aux' = ⊥
+Placed stopped (Some s') s regs aux regs' aux' = ⊥
+Placed stopped None s regs aux regs' aux' = Untouched regs aux regs' aux'
 
 -- what is held is at rest
 pub record Resting (s : Sketch) (regs aux scratch : List ℕ) : Type 0 where
   pub rests : Rests s.lg_k (state_of s regs aux) s regs aux
   pub spare : length aux ≤ length scratch
 
--- what one coupon leaves: the state after it, at rest; where there is no room, all as it was
-abbrev pub Stepped : Step State → Bool → Sketch → List ℕ → List ℕ → Sketch → List ℕ → List ℕ → Type 0
-Stepped (went b) took s regs aux s' regs' aux' = (took ≡ true) × Rests s.lg_k b s' regs' aux'
-Stepped stopped took s regs aux s' regs' aux' = (took ≡ false) × Untouched s regs aux s' regs' aux'
+-- what one coupon leaves: the state after it, at rest; None where there is no room, all as it was
+abbrev pub Stepped : Step State → Option Sketch → Sketch → List ℕ → List ℕ → List ℕ → List ℕ → Type 0
+Stepped (went b) (Some s') s regs aux regs' aux' = Rests s.lg_k b s' regs' aux'
+Stepped (went b) None s regs aux regs' aux' = ⊥
+Stepped stopped (Some s') s regs aux regs' aux' = ⊥
+Stepped stopped None s regs aux regs' aux' = Untouched regs aux regs' aux'
 
 -- a sketch of kind 4 in good order, and a scratch no shorter than its area
 pub record Feedable (s : Sketch) (regs aux scratch : List ℕ) : Type 0 where

@@ -11,9 +11,7 @@ ghost use Rattle.array4.specs.Held.{Held, Rests};
 ghost use Rattle.array4.specs.Rise.{lowered_byte, Above, Lowerable, Lowered, Freeable, Freed, Risable, Rose, settled_of};
 ghost use Rattle.array4.specs.Update.{Readable, Placeable, Placed, put_of, Resting, Stepped, Feedable};
 
-use aux_map::Got;
-use model::{Answer, Fed, Sketch};
-use packed::eight::one_if;
+use model::{Fed, Refusal, Sketch, Stopped};
 use packed::four::{get_raw, put_raw};
 
 // The nibble of an exception: its value is in the table.
@@ -29,10 +27,7 @@ fn old_value(s: Sketch, aux: &[u32], slot: u32, raw: u8) -> u8
     }
     let base = aux_map::base_for(s.lg_k);
     let size = aux_map::table_size(base, s.aux_count as usize);
-    match aux_map::get(&aux[..size], slot) {
-        Got::Value(v) => v,
-        Got::Missing => 0,
-    }
+    aux_map::get(&aux[..size], slot).unwrap_or(0)
 }
 
 // How many registers are at cur_min once one whose nibble was `raw` has left.
@@ -40,17 +35,11 @@ fn count_left(num: u32, raw: u8) -> u32
     requires { raw ≡ 0 → 0 < num }
     ensures { result ≡ pick (eqb raw 0) (num - 1) num }
 {
-    if raw == 0 { num - 1 } else { num }
-}
-
-#[derive(Clone, Copy)]
-struct Updated {
-    took: bool,
-    sketch: Sketch,
+    num - u32::from(raw == 0)
 }
 
 // The four cases by whether the register was an exception and is one. That it ceases to be one can't be: a register never falls, and
-// cur_min is the same. Room is judged before anything is stored.
+// cur_min is the same. Room is judged before anything is stored: None where there is none.
 fn place(
     s: Sketch,
     regs: &mut [u8],
@@ -59,106 +48,72 @@ fn place(
     slot: u32,
     raw: u8,
     value: u8,
-) -> Updated
+) -> Option<Sketch>
     requires { Placeable s regs.old aux.old scratch.old slot raw value }
-    ensures { Placed (put_of s regs.old aux.old slot value) result.took s regs.old aux.old result.sketch regs.new aux.new }
+    ensures { Placed (put_of s regs.old aux.old slot value) result s regs.old aux.old regs.new aux.new }
 {
-    let low = s.cur_min;
-    let count = s.aux_count;
-    let num = count_left(s.num_at_cur_min, raw);
-    if value < low + AUX_TOKEN {
-        put_raw(regs, slot, value - low);
-        return Updated {
-            took: true,
-            sketch: Sketch {
-                kind: s.kind,
-                lg_k: s.lg_k,
-                cur_min: low,
-                num_at_cur_min: num,
-                aux_count: count,
-            },
-        };
+    let num_at_cur_min = count_left(s.num_at_cur_min, raw);
+    if value < s.cur_min + AUX_TOKEN {
+        put_raw(regs, slot, value - s.cur_min);
+        return Some(Sketch {
+            num_at_cur_min,
+            ..s
+        });
     }
     let base = aux_map::base_for(s.lg_k);
-    let size = aux_map::size_for(base, count as usize);
+    let count = s.aux_count as usize;
+    let size = aux_map::size_for(base, count);
     if raw == AUX_TOKEN {
         aux_map::replace(&mut aux[..size], slot, value);
-        return Updated {
-            took: true,
-            sketch: s,
-        };
+        return Some(s);
     }
-    let need = aux_map::size_for(base, count as usize + 1);
+    let need = aux_map::size_for(base, count + 1);
     if aux.len() < need {
-        return Updated {
-            took: false,
-            sketch: s,
-        };
+        return None;
     }
     put_raw(regs, slot, AUX_TOKEN);
-    aux_map::insert(
-        aux,
-        scratch,
-        size,
-        count as usize,
-        coupon::word(slot, value),
-    );
-    Updated {
-        took: true,
-        sketch: Sketch {
-            kind: s.kind,
-            lg_k: s.lg_k,
-            cur_min: low,
-            num_at_cur_min: num,
-            aux_count: count + 1,
-        },
-    }
+    aux_map::insert(aux, scratch, size, count, coupon::word(slot, value));
+    Some(Sketch {
+        num_at_cur_min,
+        aux_count: s.aux_count + 1,
+        ..s
+    })
 }
 
-// A coupon whose value is not above its register has no effect, and most have not: the first two tests need no table.
-fn update(s: Sketch, regs: &mut [u8], aux: &mut [u32], scratch: &mut [u32], coupon: u32) -> Updated
+// A coupon whose value is not above its register has no effect, and most have not: the first two tests need no table. None where its
+// exception finds no room.
+fn update(
+    s: Sketch,
+    regs: &mut [u8],
+    aux: &mut [u32],
+    scratch: &mut [u32],
+    coupon: u32,
+) -> Option<Sketch>
     requires { Resting s regs.old aux.old scratch.old }
-    ensures { Stepped (step4 (base_for s.lg_k) (length aux.old) (state_of s regs.old aux.old) coupon) result.took s regs.old aux.old result.sketch regs.new aux.new }
+    ensures { Stepped (step4 (base_for s.lg_k) (length aux.old) (state_of s regs.old aux.old) coupon) result s regs.old aux.old regs.new aux.new }
 {
     let value = coupon::value(coupon);
     if value <= s.cur_min {
-        return Updated {
-            took: true,
-            sketch: s,
-        };
+        return Some(s);
     }
     let slot = coupon::home(s.lg_k, coupon);
     let raw = get_raw(regs, slot);
     if value <= raw + s.cur_min {
-        return Updated {
-            took: true,
-            sketch: s,
-        };
+        return Some(s);
     }
     let old = old_value(s, aux, slot, raw);
     if value <= old {
-        return Updated {
-            took: true,
-            sketch: s,
-        };
+        return Some(s);
     }
-    let placed = place(s, regs, aux, scratch, slot, raw, value);
-    if !placed.took {
-        return placed;
-    }
-    let next = placed.sketch;
-    let settled = settle(next, regs, aux, scratch);
-    Updated {
-        took: true,
-        sketch: settled,
-    }
+    let placed = place(s, regs, aux, scratch, slot, raw, value)?;
+    Some(settle(placed, regs, aux, scratch))
 }
 
 // What a nibble loses when cur_min rises by one.
 fn less(nibble: u8) -> u8
     ensures { result ≡ pick (ltb nibble 15) 1 0 }
 {
-    if nibble < AUX_TOKEN { 1 } else { 0 }
+    u8::from(nibble < AUX_TOKEN)
 }
 
 fn lower_byte(byte: u8) -> u8
@@ -173,13 +128,11 @@ fn lower(regs: &mut [u8]) -> u32
     requires { Lowerable regs.old }
     ensures { Lowered regs.old regs.new result }
 {
-    let mut n: u32 = 0;
-    let mut at = 0;
-    while at < regs.len() {
-        let byte = lower_byte(regs[at]);
-        regs[at] = byte;
-        n += (one_if(byte % 16, 0) + one_if(byte >> 4, 0)) as u32;
-        at += 1;
+    let mut n = 0;
+    for byte in regs.iter_mut() {
+        let lowered = lower_byte(*byte);
+        *byte = lowered;
+        n += u32::from(lowered % 16 == 0) + u32::from(lowered >> 4 == 0);
     }
     n
 }
@@ -189,17 +142,16 @@ fn free(table: &[u32], regs: &mut [u8], value: u8)
     requires { Freeable table.now value regs.old }
     ensures { Freed table.now value (length table.now) regs.old regs.new }
 {
-    let mut i = 0;
-    while i < table.len() {
-        let w = table[i];
+    for &w in table {
         if coupon::value(w) == value {
             put_raw(regs, coupon::slot(w), 14);
         }
-        i += 1;
     }
 }
 
-// One rise. The table is made anew of the words that a nibble still can't hold.
+// One rise. The table is made anew of the words that a nibble still can't hold. Cold, so that it stays out of the way of the coupons without
+// effect in the loop of `feed`: with few registers these take half as long again or more where it is inlined.
+#[cold]
 fn shift_to_bigger_cur_min(
     s: Sketch,
     regs: &mut [u8],
@@ -209,27 +161,24 @@ fn shift_to_bigger_cur_min(
     requires { Risable s regs.old aux.old scratch.old }
     ensures { Rose s.lg_k s.cur_min (state_of s regs.old aux.old) result regs.new aux.new }
 {
-    let low = s.cur_min;
-    let num = lower(regs);
+    let cur_min = s.cur_min + 1;
+    let num_at_cur_min = lower(regs);
     if s.aux_count == 0 {
         return Sketch {
-            kind: s.kind,
-            lg_k: s.lg_k,
-            cur_min: low + 1,
-            num_at_cur_min: num,
-            aux_count: 0,
+            cur_min,
+            num_at_cur_min,
+            ..s
         };
     }
     let base = aux_map::base_for(s.lg_k);
     let size = aux_map::table_size(base, s.aux_count as usize);
-    free(&aux[..size], regs, low + AUX_TOKEN);
-    let left = aux_table::rebuild(aux, scratch, base, size, low as u32 + 16);
+    free(&aux[..size], regs, s.cur_min + AUX_TOKEN);
+    let left = aux_table::rebuild(aux, scratch, base, size, u32::from(s.cur_min) + 16);
     Sketch {
-        kind: s.kind,
-        lg_k: s.lg_k,
-        cur_min: low + 1,
-        num_at_cur_min: num,
+        cur_min,
+        num_at_cur_min,
         aux_count: left as u32,
+        ..s
     }
 }
 
@@ -239,10 +188,8 @@ fn settle(s: Sketch, regs: &mut [u8], aux: &mut [u32], scratch: &mut [u32]) -> S
     ensures { Rests s.lg_k (settled_of s regs.old aux.old) result regs.new aux.new }
 {
     let mut risen = s;
-    let mut num = s.num_at_cur_min;
-    while num == 0 {
+    while risen.num_at_cur_min == 0 {
         risen = shift_to_bigger_cur_min(risen, regs, aux, scratch);
-        num = risen.num_at_cur_min;
     }
     risen
 }
@@ -254,30 +201,22 @@ pub fn feed(
     aux: &mut [u32],
     scratch: &mut [u32],
     coupons: &[u32],
-) -> Fed
+) -> Result<Fed, Stopped>
     requires { Feedable s regs.old aux.old scratch.old }
     ensures { fed_out result regs.new aux.new ≡ batch_of s regs.old aux.old coupons.now }
 {
-    let mut fed = s;
-    let mut i = 0;
-    while i < coupons.len() {
-        let c = coupons[i];
-        let next = i + 1;
-        let u = update(fed, regs, aux, scratch, c);
-        let sketch = u.sketch;
-        if !u.took {
-            return Fed {
-                answer: Answer::NoRoom,
-                sketch,
-                taken: i,
-            };
-        }
-        fed = sketch;
-        i = next;
+    let mut sketch = s;
+    for (taken, &coupon) in coupons.iter().enumerate() {
+        let Some(next) = update(sketch, regs, aux, scratch, coupon) else {
+            return Err(Stopped {
+                why: Refusal::NoRoom,
+                fed: Fed { sketch, taken },
+            });
+        };
+        sketch = next;
     }
-    Fed {
-        answer: Answer::Ok,
-        sketch: fed,
-        taken: i,
-    }
+    Ok(Fed {
+        sketch,
+        taken: coupons.len(),
+    })
 }

@@ -18,13 +18,13 @@ use Rattle.model.proofs.table.Search.{value_of_word}
 use Rattle.model.proofs.four.Tables.{table_few, table_word, word_some}
 use Rattle.model.proofs.four.FourLaws.{four_table, four_long}
 use Rattle.model.proofs.four.FourGood as book
-use Rattle.aux_map.specs.declared.Got.TheVariants.{Value}
+use Rattle.std.specs.Prelude.{Some}
 use Rattle.aux_map.specs.Search.{gets}
 use Rattle.aux_map.proofs.Bases.{based}
 use Rattle.aux_table.proofs.Requires.{find_met}
 use Rattle.array4_read.specs.Asks.{Tabulated}
 
-gets_word : (t : List ℕ) (i w : ℕ) → word_at t i ≡ w → (w ≡ 0 → ⊥) → gets t i ≡ Value (value w)
+gets_word : (t : List ℕ) (i w : ℕ) → word_at t i ≡ w → (w ≡ 0 → ⊥) → gets t i ≡ Some (value w)
 unfolding gets
 gets_word t i w e n = rw (e, ne_eqb w 0 n)
 
@@ -89,9 +89,9 @@ module _ (s : Sketch) (regs aux : List ℕ) (four : s.kind ≡ 4) (good : Good s
       pub room : Room (take size aux)
       room = rw (front size e) (find_met _ s.cur_min R (table_in s aux) (based s.lg_k (omega (arith, good.shaped.low)) (omega (arith, good.shaped.high))) (omega (arith, few)) table i inside (high h))
 
-      pub high_get : gets (take size aux) i ≡ Value (get_or R i 0)
+      pub high_get : gets (take size aux) i ≡ Some (get_or R i 0)
       high_get =
           let big = high h in
           ap (λ (t : List ℕ). gets t i) (front size e)
           ∙ gets_word (table_in s aux) i _ (table_word table few i inside big) (word_some i (get_or R i 0) (omega arith))
-          ∙ ap Value (value_of_word i (get_or R i 0) (omega (arith, few, inside)) (omega (arith, good.small i inside)))
+          ∙ ap Some (value_of_word i (get_or R i 0) (omega (arith, few, inside)) (omega (arith, good.small i inside)))

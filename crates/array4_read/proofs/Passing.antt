@@ -2,21 +2,19 @@
 use mathlib.Core.Path.{◌≡◌, sym, ◌∙◌, ap, subst}
 use mathlib.Core.Bool.{Bool, false}
 use mathlib.Core.List.{List, []}
-use Prim.Native.Nat.{ℕ, ◌+◌, ◌*◌, ◌^◌, ◌≤◌, ◌<◌}
+use Prim.Native.Nat.{ℕ, ◌*◌, ◌^◌, ◌<◌}
 use native.Mathlib.Omega.{arith}
-use lib.Dec.{leb}
 use lib.ListN.{length, get_or, take}
 use lib.Pow.{pow_mono}
-use lib.Seq.{length-take-le}
 use Rattle.model.specs.Pick.{Tells}
-use Rattle.model.specs.Coupon.{slot, value}
+use Rattle.model.specs.Coupon.{slot}
 use Rattle.model.specs.Packed.{slot_at}
 use Rattle.model.specs.Table.{base_for, table_size, Reached, used}
 use Rattle.model.specs.Sketch.{cells, table_in}
 use Rattle.model.specs.Check.{table_fits}
 use Rattle.model.specs.declared.Sketch.{Sketch}
 use Rattle.model.proofs.packing.Packing.{get_or_unpacked}
-use Rattle.model.proofs.order.Tells.{tells_one, tells_no, tells_as, tells_le}
+use Rattle.model.proofs.order.Tells.{tells_one, tells_no, tells_as}
 use Rattle.model.proofs.order.Tests.{cells_long, WordFits, TableFits, table_tells}
 use Rattle.model.proofs.four.FourLaws.{four_table, four_long}
 use Rattle.aux_map.specs.Sizes.{Based}
@@ -24,10 +22,6 @@ use Rattle.aux_map.proofs.Bases.{based}
 use Rattle.aux_table.specs.Check.{Ordered}
 use Rattle.array4_read.specs.Asks.{Checkable, Tabulated}
 use Rattle.array4_read.specs.Fits.{Few, WordIn, WordsIn}
-
--- a word's value that is high enough, as the code takes it
-pub high_tells : (low w v : ℕ) → v ≡ value w → Tells (leb (low + 15) v) (low + 15 ≤ value w)
-high_tells low w v is = tells_as _ (λ e. omega arith) (λ e. omega arith) (tells_le (low + 15) v)
 
 module _ (s : Sketch) (regs : List ℕ) {tokens : ℕ} (ask : Checkable s regs tokens) where
   abbrev size : ℕ
@@ -96,6 +90,3 @@ module _ (s : Sketch) (regs : List ℕ) {tokens : ℕ} (ask : Checkable s regs t
 
       pub answered : (n : ℕ) → n ≡ size → (r : Bool) → Tells r (WordsIn s.cur_min regs (take n aux)) → r ≡ table_fits s regs aux
       answered n e r t = tells_one r (table_fits s regs aux) (tells_as r fits asks_words (subst (λ (m : ℕ). Tells r (WordsIn s.cur_min regs (take m aux))) e t)) (table_tells s regs aux)
-
-    pub part : Ordered (base_for s.lg_k) s.aux_count aux → (n : ℕ) → n ≡ size → n ≡ length (take n aux)
-    part o n e = sym (length-take-le n aux (rw e o.fits))

@@ -9,7 +9,6 @@ ghost use Rattle.model.specs.Check.{table_fits};
 ghost use Rattle.array4_read.specs.Asks.{Checkable, Tabulated, Readable};
 ghost use Rattle.array4_read.specs.Fits.{Few, WordIn, WordsIn};
 
-use aux_map::Got;
 use model::Sketch;
 
 // How many words at the area's front are the table.
@@ -27,14 +26,9 @@ fn word_fits(low: u8, regs: &[u8], w: u32) -> bool
     ensures { Tells result (WordIn low regs.now w) }
 {
     let slot = coupon::slot(w);
-    if 2 * regs.len() <= slot as usize {
-        return false;
-    }
-    let raw = packed::four::get_raw(regs, slot);
-    if raw != 15 {
-        return false;
-    }
-    low as u32 + 15 <= coupon::value(w) as u32
+    (slot as usize) < 2 * regs.len()
+        && packed::four::get_raw(regs, slot) == 15
+        && u32::from(low) + 15 <= u32::from(coupon::value(w))
 }
 
 // Each word once.
@@ -42,16 +36,10 @@ fn words_fit(low: u8, regs: &[u8], table: &[u32]) -> bool
     requires { Few regs.now }
     ensures { Tells result (WordsIn low regs.now table.now) }
 {
-    let mut i = 0;
-    while i < table.len() {
-        let w = table[i];
-        if w != 0 {
-            let fits = word_fits(low, regs, w);
-            if !fits {
-                return false;
-            }
+    for &w in table {
+        if w != 0 && !word_fits(low, regs, w) {
+            return false;
         }
-        i += 1;
     }
     true
 }
@@ -73,7 +61,7 @@ pub fn table_fits(s: Sketch, regs: &[u8], aux: &[u32], tokens: u32) -> bool
     words_fit(s.cur_min, regs, &aux[..size])
 }
 
-// The register of a slot. In good order the table has a word for every nibble of 15, so Missing can't come; cur_min is the Rust's answer there.
+// The register of a slot. In good order the table has a word for every nibble of 15, so None can't come; cur_min is the Rust's answer there.
 pub fn get(s: Sketch, regs: &[u8], aux: &[u32], slot: u32) -> u8
     requires { Readable s regs.now aux.now slot }
     ensures { result ≡ get_or (registers s regs.now aux.now) slot 0 }
@@ -83,8 +71,5 @@ pub fn get(s: Sketch, regs: &[u8], aux: &[u32], slot: u32) -> u8
         return s.cur_min + raw;
     }
     let size = table_len(s);
-    match aux_map::get(&aux[..size], slot) {
-        Got::Value(value) => value,
-        Got::Missing => s.cur_min,
-    }
+    aux_map::get(&aux[..size], slot).unwrap_or(s.cur_min)
 }

@@ -1,73 +1,38 @@
--- Coupons into packed registers: one as the code does it, and what it leaves for the next. Assumes nothing.
-use mathlib.Core.Path.{◌≡◌, sym, ◌∙◌, subst}
-use mathlib.Core.List.{List, [], ◌∷◌}
-use Prim.Native.Nat.{ℕ, max, ◌-◌, ◌*◌, ◌^◌, ◌≤◌, ◌<◌}
+-- A batch into packed registers: what is behind them stays zero, so that the registers fix the bytes. Assumes nothing.
+use mathlib.Core.Path.{◌≡◌, sym, ap, ◌∙◌}
+use mathlib.Core.List.{List}
+use Prim.Native.Nat.{ℕ, ◌-◌, ◌*◌, ◌/◌, ◌^◌, ◌<◌}
+use native.Mathlib.Nat.{div-eq_of_lt, lt-div-mul-add, zero-mul}
 use native.Mathlib.Omega.{arith}
-use lib.Dec.{lit<}
-use lib.ListN.{length, get_or}
-use Rattle.model.specs.Coupon.{value, home}
-use Rattle.model.specs.Registers.{fed, count_of}
-use Rattle.model.specs.Packed.{Bytes, slot_at, unpacked, packed, Put}
-use Rattle.model.specs.Sketch.{Shaped}
-use Rattle.model.proofs.packing.Packing.{length_unpacked, get_or_unpacked, put_none, put_raised, put_spare, spare, packed_unpacked}
-use Rattle.model.proofs.registers.Lowest.{count_left, count_same}
+use lib.ListN.{length}
+use lib.Pow.{pow_pos}
+use Rattle.model.specs.Registers.{count_of}
+use Rattle.model.specs.Packed.{Bytes, number, unpacked, packed}
+use Rattle.model.proofs.packing.Packing.{spare, packed_unpacked}
 use Rattle.packed.specs.Room.{Room6}
 use Rattle.packed.proofs.Rooms.{room_6}
-use Rattle.coupon.proofs.Masks.{home_in}
+use Rattle.plain.specs.Cells.{Counted, Given}
 use Rattle.array6.specs.Asked.{Counted6, Ready6}
-use Rattle.array6.specs.Given.{Taken6}
+use Rattle.array6.specs.Given.{Fed6}
 
--- ---- one coupon: it changes nothing, is the first for its register, or a larger one
-module _ {lgk zeros : ℕ} {regs : List ℕ} (counted : Counted6 lgk zeros regs) (c : ℕ) {s v old : ℕ} (at : s ≡ home (2 ^ lgk) c) (new : v ≡ value c) (was : old ≡ slot_at 6 regs s) where
-  abbrev R : List ℕ
-  R = unpacked 6 (2 ^ lgk) regs
+pub counted_6 : {lgk zeros : ℕ} {regs : List ℕ} → Counted6 lgk zeros regs → Counted 6 lgk zeros regs
+counted_6 c = record { shaped = c.shaped; zeros_are = c.zeros_are }
 
-  inside : s < 2 ^ lgk
-  inside = rw at (home_in lgk c)
+-- no more than the registers' bits
+within : (x y m : ℕ) → 0 < m → y < m → x / m ≡ y / m → x < m
+within x y m p l e = omega (arith, lt-div-mul-add {a = x} p, ap (λ (n : ℕ). n * m) (e ∙ div-eq_of_lt l), zero-mul m)
 
-  cell : get_or R s 0 ≡ old
-  cell = get_or_unpacked 6 (2 ^ lgk) regs s inside ∙ sym was
-
-  taken : (x : ℕ) (after : List ℕ) (z : ℕ) → x ≡ max old v → Put 6 regs s x after → z ≡ count_of 0 (unpacked 6 (2 ^ lgk) after) → Taken6 lgk regs c after z
-  taken x after z e p q = record { put = rw (← at, ← new, ← was, ← e) p; zeros_are = q }
-
-  pub coupon_stays : v ≤ old → Taken6 lgk regs c regs zeros
-  coupon_stays h = taken (slot_at 6 regs s) regs zeros (omega arith) (put_none 6 s regs) counted.zeros_are
-
-  module _ {after : List ℕ} (rises : old < v) (p : Put 6 regs s v after) where
-    pub coupon_first : old ≡ 0 → (0 < zeros) × Taken6 lgk regs c after (zeros - 1)
-    coupon_first z =
-        let left = count_left 0 R s v (rw length_unpacked inside) (cell ∙ z) (λ e. omega arith) in
-        (omega (arith, counted.zeros_are), taken v after (zeros - 1) (omega arith) p (rw (p.slots (2 ^ lgk)) (omega (arith, counted.zeros_are))))
-
-    pub coupon_again : (old ≡ 0 → ⊥) → Taken6 lgk regs c after zeros
-    coupon_again n =
-        taken v after zeros (omega arith) p
-        (counted.zeros_are ∙ sym (rw (p.slots (2 ^ lgk)) (count_same 0 R s v (λ e. n (sym cell ∙ e)) (λ e. omega arith))))
-
--- ---- a batch
-module _ {lgk zeros : ℕ} {regs : List ℕ} (ready : Ready6 lgk zeros regs) (bytes : Bytes regs) where
+module _ {lgk zeros next : ℕ} {regs cs after : List ℕ} (ready : Ready6 lgk zeros regs) (before : Bytes regs) (now : Bytes after) (long : length after ≡ length regs) (g : Given 6 lgk regs cs after next) where
   room : Room6 (2 ^ lgk) (length regs)
   room = let h = ready.counted.shaped in room_6 h.low h.high h.long
 
-  -- all but the spare byte hold the registers
-  whole : 8 * (length regs - 1) ≡ 6 * 2 ^ lgk
-  whole = omega (arith, room.fours, room.bytes)
+  first : number 256 regs < 2 ^ (6 * 2 ^ lgk)
+  first = spare 6 (2 ^ lgk) (length regs - 1) regs before (omega (arith, room.bytes)) ready.spare (omega (arith, room.fours, room.bytes))
 
-  -- the registers fix the bytes
-  pub ready_kept : regs ≡ packed 6 (length regs) (unpacked 6 (2 ^ lgk) regs)
-  ready_kept =
-      sym (packed_unpacked 6 (2 ^ lgk) regs bytes
-      (spare 6 (2 ^ lgk) (length regs - 1) regs bytes (omega (arith, room.bytes)) ready.spare whole))
-
-  -- after a coupon
-  module _ (c : ℕ) {after : List ℕ} {next : ℕ} (t : Taken6 lgk regs c after next) where
-    pub taken_fed : unpacked 6 (2 ^ lgk) after ≡ fed (2 ^ lgk) (unpacked 6 (2 ^ lgk) regs) (c ∷ [])
-    unfolding fed
-    taken_fed = put_raised (value c) t.put (2 ^ lgk) (home_in lgk c)
-
-    pub ready_next : Bytes after → Ready6 lgk next after
-    ready_next h = record {
-      counted = record { shaped = subst (Shaped 6 lgk) (sym t.put.long) ready.counted.shaped; zeros_are = t.zeros_are };
-      spare = rw t.put.long (put_spare t.put bytes h (lit< tt) (2 ^ lgk) (length regs - 1) (home_in lgk c) whole ∙ ready.spare);
-    }
+  pub given_fed : Fed6 lgk regs cs after next
+  given_fed = record {
+    bytes =
+        sym (packed_unpacked 6 (2 ^ lgk) after now (within _ _ _ (pow_pos (6 * 2 ^ lgk)) first g.above))
+        ∙ ap (λ (n : ℕ). packed 6 n (unpacked 6 (2 ^ lgk) after)) long ∙ ap (packed 6 (length regs)) g.regs;
+    zeros_are = g.zeros_are ∙ ap (count_of 0) g.regs;
+  }

@@ -1,3 +1,4 @@
 pub mod Masks
+pub mod Windows
 pub mod Coupons
 pub mod Eight

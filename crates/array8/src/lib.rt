@@ -3,12 +3,30 @@
 #![tactic(auto)]
 
 ghost use Rattle.std.specs.Prelude.{◌≡◌, [], ◌∷◌, ◌%◌, ◌<◌, length, get_or};
+ghost use Rattle.std.proofs.Common.{lit≤};
 ghost use Rattle.model.specs.Registers as book;
 ghost use Rattle.model.specs.Registers.{fed, poured, joined};
 ghost use Rattle.array8.specs.Asked.{Power, Finer, Blocked, Ready};
 ghost use Rattle.array8.specs.Given.{Fed};
 
 use packed::eight::larger;
+use plain::Cells;
+
+pub struct Array8;
+
+impl Cells for Array8 {
+    ghost width = { 8 };
+
+    ghost some = { lit≤ tt };
+
+    fn get_raw(regs: &[u8], slot: u32) -> u8 {
+        get(regs, slot)
+    }
+
+    fn put_raw(regs: &mut [u8], slot: u32, value: u8) {
+        regs[slot as usize] = value;
+    }
+}
 
 pub fn get(regs: &[u8], slot: u32) -> u8
     requires { slot < length regs.now }
@@ -17,35 +35,18 @@ pub fn get(regs: &[u8], slot: u32) -> u8
     regs[slot as usize]
 }
 
-// The number of zeros comes in and goes out: it is kept in the record, and counted only where a whole buffer changes.
 pub fn update(lg_k: u8, num_zeros: u32, regs: &mut [u8], coupon: u32) -> u32
     requires { Ready lg_k num_zeros regs.old }
     ensures { Fed lg_k regs.old (coupon ∷ []) regs.new result }
 {
-    let slot = coupon::home(lg_k, coupon);
-    let new_value = coupon::value(coupon);
-    let old_value = get(regs, slot);
-    if new_value <= old_value {
-        return num_zeros;
-    }
-    regs[slot as usize] = new_value;
-    if old_value == 0 {
-        return num_zeros - 1;
-    }
-    num_zeros
+    plain::update::<Array8>(lg_k, num_zeros, regs, coupon)
 }
 
 pub fn feed(lg_k: u8, num_zeros: u32, regs: &mut [u8], coupons: &[u32]) -> u32
     requires { Ready lg_k num_zeros regs.old }
     ensures { Fed lg_k regs.old coupons.now regs.new result }
 {
-    let mut zeros = num_zeros;
-    let mut turn = 0;
-    while turn < coupons.len() {
-        zeros = update(lg_k, zeros, regs, coupons[turn]);
-        turn += 1;
-    }
-    zeros
+    plain::feed::<Array8>(lg_k, num_zeros, regs, coupons)
 }
 
 // The lent registers themselves, and no copy: the reference handed in.
@@ -64,27 +65,23 @@ pub fn raise(target: &mut [u8], slot: usize, value: u8)
     target[dst_slot] = larger(target[dst_slot], value);
 }
 
+// By slot, since no proof knows what a loop over `target.iter_mut().zip(src)` leaves in the target: an adapter of iter_mut says nothing of it.
 pub fn merge_array_same_lgk(target: &mut [u8], src: &[u8])
     requires { length target.old ≡ length src.now }
     ensures { target.new ≡ joined (length target.old) target.old src.now }
 {
-    let mut slot = 0;
-    while slot < src.len() {
-        target[slot] = larger(target[slot], src[slot]);
-        slot += 1;
+    for (slot, &value) in src.iter().enumerate() {
+        target[slot] = larger(target[slot], value);
     }
 }
 
+// The source in parts as long as the target: slot s of each goes to slot s.
 pub fn merge_array_with_downsample(target: &mut [u8], src: &[u8])
     requires { Finer (length target.old) (length src.now) }
     ensures { target.new ≡ joined (length target.old) target.old src.now }
 {
-    let dst_mask = target.len() - 1;
-    let mut src_slot = 0;
-    while src_slot < src.len() {
-        let dst_slot = src_slot & dst_mask;
-        target[dst_slot] = larger(target[dst_slot], src[src_slot]);
-        src_slot += 1;
+    for part in src.chunks_exact(target.len()) {
+        merge_array_same_lgk(target, part);
     }
 }
 
@@ -94,12 +91,7 @@ pub fn merge_block(target: &mut [u8], from: usize, block: &[u8])
     ensures { target.new ≡ poured (length target.old) target.old from block.now }
 {
     let first_dst = from & (target.len() - 1);
-    let mut i = 0;
-    while i < block.len() {
-        let at = first_dst + i;
-        target[at] = larger(target[at], block[i]);
-        i += 1;
-    }
+    merge_array_same_lgk(&mut target[first_dst..first_dst + block.len()], block);
 }
 
 // Exception words, as if they were coupons. An empty one has value 0 and raises nothing, so none is passed over.
@@ -107,10 +99,7 @@ pub fn raise_words(target: &mut [u8], words: &[u32])
     requires { Power (length target.old) }
     ensures { target.new ≡ fed (length target.old) target.old words.now }
 {
-    let mut at = 0;
-    while at < words.len() {
-        let word = words[at];
+    for &word in words {
         raise(target, coupon::slot(word) as usize, coupon::value(word));
-        at += 1;
     }
 }

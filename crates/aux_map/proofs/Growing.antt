@@ -5,13 +5,13 @@ use mathlib.Core.List.{List, ◌++◌}
 use Prim.Native.Nat.{ℕ, ◌+◌, ◌*◌, ◌≤◌, ◌<◌}
 use native.Mathlib.Omega.{arith}
 use lib.Dec.{leb}
-use lib.ListN.{length, take, drop, length-append, take-append-drop}
+use lib.ListN.{length, take, drop, take-append-drop}
 use lib.Seq.{length-take-le, take_at}
 use borrow.Author.Tests.{le-leb, lt-leb}
 use Rattle.model.specs.Pick.{pick}
 use Rattle.model.specs.Table.{used, grown}
 use Rattle.model.proofs.table.Grown.{length_grown}
-use Rattle.aux_map.specs.Grow.{checked, scratched, Doubled, Growable, Grew}
+use Rattle.aux_map.specs.Grow.{checked, scratched, Growable, Grew}
 
 -- a table is not shorter afterwards
 pub checked_long : (t : List ℕ) → length t ≤ length (checked t)
@@ -38,12 +38,6 @@ module _ (area scratch : List ℕ) (size count : ℕ) (ok : Growable area scratc
       same = rw (ok.counted, table_length, le-leb (4 * count) (3 * size) h)
 
   module _ (h : 3 * size < 4 * count) where
-    pub area_part : length (take (size + size) area) ≡ size + size
-    area_part = length-take-le (size + size) area (ok.wider h)
-
-    pub scratch_part : length (take size scratch) ≡ size
-    scratch_part = length-take-le size scratch (ok.spared h)
-
     -- the table copied to the front of the scratch
     module _ (f : List ℕ) (q : f ≡ take size area) where
       f_length : length f ≡ size
@@ -51,15 +45,6 @@ module _ (area scratch : List ℕ) (size count : ℕ) (ok : Growable area scratc
 
       front : take size (f ++ drop size scratch) ≡ take size area
       front = take_at f (drop size scratch) size f_length ∙ q
-
-      pub front_length : length (take size (f ++ drop size scratch)) ≡ size
-      front_length = ap length front ∙ table_length
-
-      pub front_fits : size ≤ length (f ++ drop size scratch)
-      front_fits = omega (arith, length-append f (drop size scratch), f_length)
-
-      pub doubled : Doubled (take size (f ++ drop size scratch)) (take (size + size) area)
-      doubled = record { lg = ok.lg; size = front_length ∙ ok.power; twice = area_part ∙ sym (ap₂ ◌+◌ front_length front_length) }
 
       -- and re-inserted into the front of the area
       pub grows : (g : List ℕ) → g ≡ grown (take size (f ++ drop size scratch)) → Grew area scratch size (size + size) (g ++ drop (size + size) area) (f ++ drop size scratch)

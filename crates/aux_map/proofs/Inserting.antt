@@ -2,6 +2,7 @@
 use mathlib.Core.Path.{◌≡◌, ◌∙◌, ap}
 use mathlib.Core.List.{List, ◌++◌}
 use Prim.Native.Nat.{ℕ, ◌+◌, ◌<◌}
+use Rattle.std.specs.Prelude.{Ok, Err}
 use native.Mathlib.Omega.{arith}
 use lib.ListN.{length, set, take, length-set}
 use lib.Seq.{length-take-le, take-set-lt, drop-set-lt}
@@ -10,7 +11,6 @@ use Rattle.model.specs.Table.{Room, used, replace, insert}
 use Rattle.model.proofs.table.Refill.{room_of}
 use Rattle.model.proofs.table.Order.{length_replace}
 use Rattle.model.proofs.table.Grown.{used_fresh}
-use Rattle.aux_map.specs.declared.FindResult.TheVariants.{Found, Empty}
 use Rattle.aux_map.specs.Search.{finds}
 use Rattle.aux_map.specs.Grow.{over, checked, scratched, Growable, Grew, Insertable, Inserted}
 use Rattle.aux_map.proofs.Answers.{finds_found, finds_empty, empty_lt}
@@ -28,10 +28,10 @@ module _ (area scratch : List ℕ) (size count w : ℕ) (ok : Insertable area sc
   room = room_of (take size area) ok.lg (table_length ∙ ok.power) (omega (arith, table_length))
 
   -- the Rust's unreachable arm
-  pub not_found : (p : ℕ) → finds (take size area) (slot w) ≡ Found p → ⊥
+  pub not_found : (p : ℕ) → finds (take size area) (slot w) ≡ Ok p → ⊥
   not_found p e = (finds_found (take size area) (slot w) p e).1 ok.absent
 
-  module _ (p : ℕ) (e : finds (take size area) (slot w) ≡ Empty p) where
+  module _ (p : ℕ) (e : finds (take size area) (slot w) ≡ Err p) where
     pub inside : p < size
     inside = omega (arith, empty_lt (take size area) (slot w) p room e, table_length)
 

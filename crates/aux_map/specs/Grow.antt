@@ -16,10 +16,6 @@ checked t = pick (leb (4 * used t) (3 * length t)) t (grown t)
 unfoldable pub scratched : List ℕ → List ℕ → List ℕ
 scratched t scratch = pick (leb (4 * used t) (3 * length t)) scratch (over t scratch)
 
--- two lists of one length
-pub record SameLength (from to : List ℕ) : Type 0 where
-  pub same : length from ≡ length to
-
 -- a table whose size is a power of two, and a list of twice its length
 pub record Doubled (t into : List ℕ) : Type 0 where
   pub lg : ℕ

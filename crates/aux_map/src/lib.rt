@@ -6,7 +6,7 @@ ghost use Rattle.model.specs.Coupon.{word};
 ghost use Rattle.model.specs.Table.{bases, base_for, size_for, table_size, Room, place, replace, grown};
 ghost use Rattle.aux_map.specs.Sizes.{Listed, Power, Sizable};
 ghost use Rattle.aux_map.specs.Search.{finds, gets, Replaceable};
-ghost use Rattle.aux_map.specs.Grow.{SameLength, Doubled, Growable, Grew, Insertable, Inserted};
+ghost use Rattle.aux_map.specs.Grow.{Doubled, Growable, Grew, Insertable, Inserted};
 
 const LG_AUX_ARR_INTS: [u8; 27] = [
     0, 2, 2, 2, 2, 2, 2, 3, 3, 3, 4, 4, 5, 5, 6, 7, 8, 9, 10, 11, 12, 13, 14, 15, 16, 17, 18,
@@ -17,7 +17,7 @@ pub fn lg_aux_arr_ints(lg_k: u8) -> u8
     requires { Listed lg_k }
     ensures { result ≡ get_or bases lg_k 0 }
 {
-    LG_AUX_ARR_INTS[lg_k as usize]
+    LG_AUX_ARR_INTS[usize::from(lg_k)]
 }
 
 // The least size of a table.
@@ -25,8 +25,7 @@ pub fn base_for(lg_k: u8) -> usize
     requires { Listed lg_k }
     ensures { result ≡ base_for lg_k }
 {
-    let e = lg_aux_arr_ints(lg_k);
-    1usize << (e as usize)
+    1 << lg_aux_arr_ints(lg_k)
 }
 
 // The least doubling of the base that so many words fill to three quarters at most.
@@ -36,7 +35,7 @@ pub fn size_for(base: usize, count: usize) -> usize
 {
     let mut size = base;
     while 3 * size < 4 * count {
-        size = size + size;
+        size *= 2;
     }
     size
 }
@@ -65,7 +64,8 @@ fn quotient(x: usize, size: usize) -> usize
     x >> lg
 }
 
-// Where the search for a slot ends: at its word, or at the first empty place.
+// Where the search for a slot ends: at its word, or at the first empty place. The places come by an odd stride and wrap, so that no slice's
+// iterator goes over them: a loop left by `break` with the place.
 pub fn probe(table: &[u32], slot: u32) -> usize
     requires { Room table.now }
     ensures { result ≡ place table.now slot }
@@ -73,7 +73,7 @@ pub fn probe(table: &[u32], slot: u32) -> usize
     let size = table.len();
     let step = quotient(slot as usize, size) / 2 * 2 + 1;
     let mut at = wrap(slot as usize, size);
-    let found = loop {
+    loop {
         let w = table[at];
         if w == 0 {
             break at;
@@ -82,44 +82,25 @@ pub fn probe(table: &[u32], slot: u32) -> usize
             break at;
         }
         at = wrap(at + step, size);
-    };
-    found
+    }
 }
 
-#[derive(Clone, Copy)]
-pub enum FindResult {
-    Found(usize),
-    Empty(usize),
-}
-
-// The same place, with what is there.
-pub fn find(table: &[u32], slot: u32) -> FindResult
+// The place of the slot's word, or Err of the empty place where the search ends: as `binary_search` answers.
+pub fn find(table: &[u32], slot: u32) -> Result<usize, usize>
     requires { Room table.now }
     ensures { result ≡ finds table.now slot }
 {
     let at = probe(table, slot);
-    if table[at] == 0 {
-        FindResult::Empty(at)
-    } else {
-        FindResult::Found(at)
-    }
-}
-
-#[derive(Clone, Copy)]
-pub enum Got {
-    Value(u8),
-    Missing,
+    if table[at] == 0 { Err(at) } else { Ok(at) }
 }
 
 // The value that the table has for a slot.
-pub fn get(table: &[u32], slot: u32) -> Got
+pub fn get(table: &[u32], slot: u32) -> Option<u8>
     requires { Room table.now }
     ensures { result ≡ gets table.now slot }
 {
-    match find(table, slot) {
-        FindResult::Found(at) => Got::Value(coupon::value(table[at])),
-        FindResult::Empty(_) => Got::Missing,
-    }
+    let at = find(table, slot).ok()?;
+    Some(coupon::value(table[at]))
 }
 
 // Another value for a slot that the table has.
@@ -127,32 +108,8 @@ pub fn replace(table: &mut [u32], slot: u32, value: u8)
     requires { Replaceable table.old slot value }
     ensures { table.new ≡ replace table.old (word slot value) }
 {
-    match find(table, slot) {
-        FindResult::Found(at) => table[at] = coupon::word(slot, value),
-        FindResult::Empty(_) => (),
-    }
-}
-
-// Every word made empty.
-pub fn clear(words: &mut [u32])
-    ensures { words.new ≡ replicate (length words.old) 0 }
-{
-    let mut i = 0;
-    while i < words.len() {
-        words[i] = 0;
-        i += 1;
-    }
-}
-
-// The words of `from` over those of `to`.
-fn copy(from: &[u32], to: &mut [u32])
-    requires { SameLength from.now to.old }
-    ensures { to.new ≡ from.now }
-{
-    let mut i = 0;
-    while i < from.len() {
-        to[i] = from[i];
-        i += 1;
+    if let Ok(at) = find(table, slot) {
+        table[at] = coupon::word(slot, value);
     }
 }
 
@@ -161,15 +118,12 @@ fn grow(table: &[u32], into: &mut [u32])
     requires { Doubled table.now into.old }
     ensures { into.new ≡ grown table.now }
 {
-    clear(into);
-    let mut i = 0;
-    while i < table.len() {
-        let w = table[i];
+    into.fill(0);
+    for &w in table {
         if w != 0 {
             let at = probe(into, coupon::slot(w));
             into[at] = w;
         }
-        i += 1;
     }
 }
 
@@ -182,17 +136,19 @@ fn check_grow(area: &mut [u32], scratch: &mut [u32], size: usize, count: usize) 
         return size;
     }
     let twice = size + size;
-    copy(&area[..size], &mut scratch[..size]);
+    scratch[..size].copy_from_slice(&area[..size]);
     grow(&scratch[..size], &mut area[..twice]);
     twice
 }
 
 // A word for a slot that the table, the area's first `size` words, has not; then the table grows if it must. The answer is its size.
+// Inlined into the loop of aux_table::build, which is a tenth slower or more by a call.
+#[inline]
 pub fn insert(area: &mut [u32], scratch: &mut [u32], size: usize, count: usize, w: u32) -> usize
     requires { Insertable area.old scratch.old size count w }
     ensures { Inserted area.old scratch.old size w result area.new scratch.new }
 {
-    let FindResult::Empty(at) = find(&area[..size], coupon::slot(w)) else {
+    let Err(at) = find(&area[..size], coupon::slot(w)) else {
         return size;
     };
     area[at] = w;

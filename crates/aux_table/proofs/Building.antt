@@ -8,7 +8,7 @@ use native.Mathlib.Numerals.{add-one}
 use native.Mathlib.Omega.{arith}
 use lib.Dec.{leb}
 use lib.ListN.{length, get_or, take, drop, replicate, length-replicate, length-drop}
-use lib.Seq.{take-length, drop-append-add, drop-drop, drop-cons, get_or-drop}
+use lib.Seq.{drop-append-add, drop-drop, drop-cons, get_or-drop}
 use borrow.Author.Tests.{leb-false}
 use Rattle.model.specs.Pick.{pick}
 use Rattle.model.specs.Coupon.{slot}
@@ -85,13 +85,6 @@ module _ (area₀ scratch₀ : List ℕ) (base top : ℕ) (ok : Buildable area�
 
   pub spared_sum : table_size base (length (drop top scratch₀)) ≤ top + length (drop top scratch₀)
   spared_sum = omega (arith, ok.spared, length-drop top scratch₀, ok.within)
-
-  module _ (area scratch : List ℕ) (size count j : ℕ) (turn : Turn base top (length area₀) (drop top scratch₀) area scratch size count j) where
-    -- at the end all words are in the table
-    pub all : length scratch ≤ j → area ≡ laid (length area₀) (made base (drop top scratch₀))
-    all h =
-        let e : count ≡ length (drop top scratch₀) = omega (arith, turn.at, turn.upto, turn.long) in
-        turn.table ∙ ap (λ (l : List ℕ). laid (length area₀) (made base l)) (ap (λ (n : ℕ). take n (drop top scratch₀)) e ∙ take-length (drop top scratch₀))
 
 -- a turn, over the words, the room and the length of the scratch
 module _ (base top room : ℕ) (ws : List ℕ) (based : Based base) (words : Makable ws) (fits : table_size base (length ws) ≤ room) (spared : table_size base (length ws) ≤ top + length ws)

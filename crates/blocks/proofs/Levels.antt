@@ -2,8 +2,8 @@
 use mathlib.Core.Path.{◌≡◌, refl, sym, ap, ap₂, ◌∙◌}
 use mathlib.Core.List.{List, [], ◌∷◌, map}
 use mathlib.Core.Logic.{◌⊎◌, inl, inr}
-use Prim.Native.Nat.{ℕ, zero, suc, ◌+◌, ◌%◌, ◌^◌, ◌≤◌, ◌<◌}
-use native.Mathlib.Nat.{le_refl, zero-add, mod_self}
+use Prim.Native.Nat.{ℕ, zero, suc, min, ◌+◌, ◌*◌, ◌/◌, ◌%◌, ◌^◌, ◌≤◌, ◌<◌}
+use native.Mathlib.Nat.{le_refl, zero-add, mod_self, min-eq_left, min-eq_right}
 use native.Mathlib.Omega.{arith}
 use native.Mathlib.Decide.{ℕ_discrete, dec_lt}
 use lib.ListN.{length, get_or, take, drop, replicate, length-map}
@@ -22,7 +22,7 @@ use Rattle.array4_read.proofs.Held as held
 use Rattle.array8.specs.Asked.{Power, Blocked}
 use Rattle.model.proofs.registers.Turns.{poured_append}
 use Rattle.blocks.specs.Asked.{Level, Liftable, Floor, Long, PourableBy, Worded}
-use Rattle.blocks.proofs.Turns.{past, past_mod, start_mod, next_start, turn_long, turn_at, turn_left}
+use Rattle.blocks.proofs.Turns.{past, past_mod, start_mod, block_start, block_inside, block_next, blocks_end, turn_long, turn_at, turn_left}
 
 map_take : (f : ℕ → ℕ) (n : ℕ) (l : List ℕ) → map f (take n l) ≡ take n (map f l)
 map_take f zero l = refl
@@ -101,82 +101,89 @@ pub whole_floors : (s : Sketch) (regs : List ℕ) {u : ℕ} {out : List ℕ} →
 whole_floors s regs {u} e q = q ∙ take_all u (floors s regs) (omega (arith, floors_long s regs))
 
 -- ---- block by block
-pub long_whole : {k : ℕ} (p : Power k) → 4 ≤ p.lg → k < 256 → Long p.lg k
+long_whole : {k : ℕ} (p : Power k) → 4 ≤ p.lg → k < 256 → Long p.lg k
 long_whole p h small = record { run = p.lg; power = p.power; least = h; most = le_refl p.lg; small = omega arith }
 
-pub long_part : {k : ℕ} (p : Power k) → 256 ≤ k → Long p.lg 256
+long_part : {k : ℕ} (p : Power k) → 256 ≤ k → Long p.lg 256
 long_part {k} p large = record { run = 8; power = refl; least = omega arith; most = go (dec_lt p.lg 8); small = le_refl 256 }
   where
     go : Dec (p.lg < 8) → 8 ≤ p.lg
     go (yes h) = absurd (omega (arith, p.power, pow-lt h))
     go (no h) = omega arith
 
+pub long_least : {k : ℕ} (p : Power k) → 4 ≤ p.lg → Long p.lg (min k 256)
+long_least {k} p h = go (dec_lt k 256)
+  where
+    go : Dec (k < 256) → Long p.lg (min k 256)
+    go (yes small) = rw (min-eq_left {n = k} {m = 256} (omega arith)) (long_whole p h small)
+    go (no large) = rw (min-eq_right {n = 256} {m = k} (omega arith)) (long_part p (omega arith))
+
 -- the front of a buffer that has room for any such block
 pub buffer_long : {lg m : ℕ} → Long lg m → m ≡ length (take {A = ℕ} m (replicate 256 0))
 buffer_long {m = m} l = sym (length-take-le {A = ℕ} m (replicate 256 0) l.small)
 
--- a turn of a loop over all floors: k registers, as the code has them, in blocks of m, and a buffer of length u
-pub record Turn (s : Sketch) (n m k from u : ℕ) : Type 0 where
+-- a turn of a loop over all floors in blocks of m: the b-th, read into a buffer of length u
+pub record Turn (s : Sketch) (n m b u : ℕ) : Type 0 where
   pub level : Level s n
   pub long : Long s.lg_k m
-  pub many : k ≡ 2 ^ s.lg_k
-  pub start : from % m ≡ 0
-  pub inside : from < k
+  pub inside : b < 2 ^ s.lg_k / m
   pub len : u ≡ m
 
-module _ {s : Sketch} {n m k from u : ℕ} (w : Turn s n m k from u) where
-  pub turn_few : k + m ≤ 2 ^ 22
-  turn_few = rw w.many (omega (arith, pow_mono w.level.shaped.high, w.long.small))
+pub long_some : {lg m : ℕ} → Long lg m → 0 < m
+long_some l = rw l.power (pow_pos l.run)
 
-  pub turn_some : 0 < m
-  turn_some = rw w.long.power (pow_pos w.long.run)
+-- after the last one
+pub long_end : {lg m k : ℕ} → Long lg m → k ≡ 2 ^ lg → (b : ℕ) → k / m ≤ b → 2 ^ lg ≤ b * m
+long_end l many b h = rw (← many) (blocks_end l.most b _ _ l.power many h)
 
-  starts : from % 2 ^ w.long.run ≡ 0
-  starts = rw w.long.power at w.start
+module _ {s : Sketch} {n m b u : ℕ} (w : Turn s n m b u) where
+  starts : b * m % 2 ^ w.long.run ≡ 0
+  starts = rw (← w.long.power) (block_start b m)
 
-  turn_past : from + m ≤ 2 ^ s.lg_k
-  turn_past = rw w.long.power (past w.long.most from starts (rw (← w.many) w.inside))
+  turn_past : b * m + m ≤ 2 ^ s.lg_k
+  turn_past = let h = past w.long.most (b * m) starts (block_inside b m (2 ^ s.lg_k) (long_some w.long) w.inside) in omega (arith, w.long.power)
+
+  pub turn_few : b * m + m ≤ 2 ^ 21
+  turn_few = omega (arith, turn_past, pow_mono w.level.shaped.high)
 
   turn_sixteens : m % 16 ≡ 0
   turn_sixteens = rw w.long.power (start_mod w.long.least (2 ^ w.long.run) (mod_self (2 ^ w.long.run)))
 
-  pub turn_floor : Floor s n from u
-  turn_floor = rw w.len (record { level = w.level; within = record { shaped = w.level.shaped; start = start_mod w.long.least from starts; long = turn_sixteens; inside = turn_past } })
+  pub turn_floor : Floor s n (b * m) u
+  turn_floor = rw w.len (record { level = w.level; within = record { shaped = w.level.shaped; start = start_mod w.long.least (b * m) starts; long = turn_sixteens; inside = turn_past } })
 
-  pub floors_end : (regs : List ℕ) → from + u ≤ length (floors s regs)
+  pub floors_end : (regs : List ℕ) → b * m + u ≤ length (floors s regs)
   floors_end regs = rw (floors_long s regs) turn_floor.within.inside
-
-  module _ (regs : List ℕ) {out : List ℕ} (read : out ≡ take u (drop from (floors s regs))) where
-    pub out_long : length out ≡ m
-    out_long = turn_long (floors s regs) from u (floors_end regs) read ∙ w.len
-
-    pub out_start : (from + length out) % m ≡ 0
-    out_start = rw out_long (next_start m from w.start)
 
 -- ---- poured into a target
 long_le : {lg lgk m : ℕ} → Long lg m → lg ≤ lgk → Long lgk m
 long_le l le = record { run = l.run; power = l.power; least = l.least; most = omega (arith, l.most); small = l.small }
 
-pub pour_turn : {s : Sketch} {n m t k from u : ℕ} → PourableBy s n m t → k ≡ 2 ^ s.lg_k → from % m ≡ 0 → from < k → u ≡ m → Turn s n m k from u
-pour_turn p many start inside len = record { level = p.pourable.level; long = long_le p.long p.pourable.coarser; many = many; start = start; inside = inside; len = len }
+pub pour_long : {s : Sketch} {n m t : ℕ} → PourableBy s n m t → Long s.lg_k m
+pour_long p = long_le p.long p.pourable.coarser
 
-module _ {s : Sketch} {n m t k from u : ℕ} (p : PourableBy s n m t) (w : Turn s n m k from u) (regs : List ℕ) {out : List ℕ} (read : out ≡ take u (drop from (floors s regs))) where
+module _ {s : Sketch} {n m t b u : ℕ} (p : PourableBy s n m t) (w : Turn s n m b u) (regs : List ℕ) {out : List ℕ} (read : out ≡ take u (drop (b * m) (floors s regs))) where
   abbrev F : List ℕ
   F = floors s regs
 
-  pub pour_block : {v : ℕ} → v ≡ t → Blocked v from (length out)
+  out_long : length out ≡ u
+  out_long = turn_long F (b * m) u (floors_end w regs) read
+
+  pub pour_block : {v : ℕ} → v ≡ t → Blocked v (b * m) (length out)
   pour_block e = record {
     target = record { lg = p.pourable.target.lg; power = e ∙ p.pourable.target.power };
-    inside = rw (out_long w regs read, e, p.pourable.target.power, p.long.power) (past_mod p.long.most from (rw p.long.power at w.start));
+    inside = let h = past_mod p.long.most (b * m) (rw (← p.long.power) (block_start b m)) in rw (out_long, w.len, e, p.pourable.target.power) (omega (arith, h, p.long.power));
   }
 
   -- T before this block and S after it; what is left to pour in leads to all
-  pub pour_next : (T S all : List ℕ) → length T ≡ t → S ≡ poured (length T) T from out → poured t T from (drop from (floors s regs)) ≡ all
-      → poured t S (from + length out) (drop (from + length out) (floors s regs)) ≡ all
+  pub pour_next : (T S all : List ℕ) → length T ≡ t → S ≡ poured (length T) T (b * m) out → poured t T (b * m) (drop (b * m) (floors s regs)) ≡ all
+      → poured t S ((b + 1) * m) (drop ((b + 1) * m) (floors s regs)) ≡ all
   pour_next T S all size e q =
       let end = floors_end w regs in
-      ap (λ (x : List ℕ). poured t x (from + length out) (drop (from + length out) F)) (e ∙ ap (λ (i : ℕ). poured i T from out) size)
-      ∙ ap (λ (i : ℕ). poured t (poured t T from out) (from + length out) (drop (from + i) F)) (turn_long F from u end read)
+      let from = b * m in
+      ap (λ (i : ℕ). poured t S i (drop i F)) (sym (block_next b m w.len))
+      ∙ ap (λ (x : List ℕ). poured t x (from + u) (drop (from + u) F)) (e ∙ ap (λ (i : ℕ). poured i T from out) size)
+      ∙ ap (λ (i : ℕ). poured t (poured t T from out) (from + i) (drop (from + u) F)) (sym out_long)
       ∙ sym (poured_append t T from out (drop (from + u) F)) ∙ ap (poured t T from) (sym (turn_left F from u end read)) ∙ q
 
 -- ---- the words

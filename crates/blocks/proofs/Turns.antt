@@ -2,7 +2,8 @@
 use mathlib.Core.Path.{◌≡◌, sym, ap, ◌∙◌, subst}
 use mathlib.Core.List.{List, ◌++◌}
 use Prim.Native.Nat.{ℕ, ◌+◌, ◌-◌, ◌*◌, ◌/◌, ◌%◌, ◌^◌, ◌≤◌, ◌<◌}
-use native.Mathlib.Nat.{sub-add_cancel, suc-mul, mul-le-mul_right, mod-lt, zero-mod, add-mod_right}
+use native.Mathlib.Nat.{sub-add_cancel, suc-mul, mul-le-mul_right, mod-lt, zero-mod, zero-add, mod_self, div-add-mod', add-mul-mod_self_right}
+use native.Mathlib.Numerals.{add-one}
 use native.Mathlib.Omega.{arith}
 use lib.ListN.{length, get_or, take, drop, length-drop, take-append-drop}
 use lib.Pow.{pow-add, pow_pos, shr_lt, mod-mod-pow, split}
@@ -28,8 +29,21 @@ module _ {r lg : ℕ} (le : r ≤ lg) where
   pub start_mod : (from : ℕ) → from % 2 ^ lg ≡ 0 → from % 2 ^ r ≡ 0
   start_mod from start = sym (subst (λ (n : ℕ). from % 2 ^ n % 2 ^ r ≡ from % 2 ^ r) sum (mod-mod-pow from (lg - r) r)) ∙ ap (λ (n : ℕ). n % 2 ^ r) start ∙ zero-mod (2 ^ r)
 
-pub next_start : (m from : ℕ) → from % m ≡ 0 → (from + m) % m ≡ 0
-next_start m from e = add-mod_right from m ∙ e
+-- the b-th block of m, as a loop counts them
+pub block_start : (b m : ℕ) → b * m % m ≡ 0
+block_start b m = ap (λ (n : ℕ). n % m) (sym (zero-add (b * m))) ∙ add-mul-mod_self_right 0 b m ∙ zero-mod m
+
+pub block_inside : (b m k : ℕ) → 0 < m → b < k / m → b * m < k
+block_inside b m k some l = omega (arith, mul-le-mul_right m l, suc-mul b m, div-add-mod' k m)
+
+pub block_next : (b m : ℕ) {u : ℕ} → u ≡ m → b * m + u ≡ (b + 1) * m
+block_next b m e = omega (arith, e, ap (λ (n : ℕ). n * m) (add-one b), suc-mul b m)
+
+pub blocks_end : {r lg : ℕ} → r ≤ lg → (b k m : ℕ) → m ≡ 2 ^ r → k ≡ 2 ^ lg → k / m ≤ b → k ≤ b * m
+blocks_end {r} {lg} le b k m e q h = omega (arith, mul-le-mul_right m h, div-add-mod' k m, whole)
+  where
+    whole : k % m ≡ 0
+    whole = rw (q, e) (start_mod le (2 ^ lg) (mod_self (2 ^ lg)))
 
 -- ---- a block of n
 module _ (L : List ℕ) (from n : ℕ) (end : from + n ≤ length L) {out : List ℕ} (read : out ≡ take n (drop from L)) where

@@ -19,20 +19,17 @@ pub fn cells(s: Sketch, regs: &[u8], from: usize, out: &mut [u8])
     ensures { out.new ≡ take (length out.old) (drop from (book.cells s regs.now)) }
 {
     let n = out.len();
-    if s.kind == 8 {
-        let end = from + n;
-        packed::eight::copy(&regs[from..end], out);
-        return;
+    match s.kind {
+        8 => out.copy_from_slice(&regs[from..from + n]),
+        6 => {
+            let at = from / 4 * 3;
+            packed::six::unpack(&regs[at..at + n / 4 * 3 + 1], out)
+        }
+        _ => {
+            let at = from / 2;
+            packed::four::unpack(&regs[at..at + n / 2], out)
+        }
     }
-    if s.kind == 6 {
-        let at = from / 4 * 3;
-        let end = at + n / 4 * 3 + 1;
-        packed::six::unpack(&regs[at..end], out);
-        return;
-    }
-    let at = from / 2;
-    let end = at + n / 2;
-    packed::four::unpack(&regs[at..end], out);
 }
 
 // The loop has no branch.
@@ -40,10 +37,8 @@ fn lift(out: &mut [u8], by: u8)
     requires { Liftable by out.old }
     ensures { out.new ≡ map (◌+◌ by) out.old }
 {
-    let mut at = 0;
-    while at < out.len() {
-        out[at] = by + out[at];
-        at += 1;
+    for cell in out.iter_mut() {
+        *cell += by;
     }
 }
 
@@ -63,20 +58,20 @@ pub fn floors(s: Sketch, regs: &[u8], from: usize, out: &mut [u8])
 pub fn block_len(k: usize) -> usize
     ensures { (p : Power k) → 4 ≤ p.lg → Long p.lg result }
 {
-    if k < 256 { k } else { 256 }
+    k.min(256)
 }
 
-// By blocks as long as `some`, which is lent for them alone.
+// By blocks as long as `some`, which is lent for them alone. block_counts::count_by is the same walk, a `for` and one call, with another step: as one
+// function over a closure its contract would be a relation between the closure's states before and after every block.
 fn pour_by(s: Sketch, regs: &[u8], some: &mut [u8], target: &mut [u8])
     requires { PourableBy s (length regs.now) (length some.old) (length target.old) }
     ensures { target.new ≡ joined (length target.old) target.old (book.floors s regs.now) }
 {
-    let k = shape::num_registers(s.lg_k);
-    let mut from = 0;
-    while from < k {
+    let n = some.len();
+    for block in 0..shape::num_registers(s.lg_k) / n {
+        let from = block * n;
         floors(s, regs, from, some);
         array8::merge_block(target, from, some);
-        from += some.len();
     }
 }
 
@@ -107,10 +102,8 @@ fn resolve(s: Sketch, regs: &[u8], aux: &[u32], from: usize, out: &mut [u8])
     requires { Block4 s regs.now aux.now from (length out.old) }
     ensures { out.new ≡ take (length out.old) (drop from (book.registers s regs.now aux.now)) }
 {
-    let mut i = 0;
-    while i < out.len() {
-        out[i] = array4_read::get(s, regs, aux, (from + i) as u32);
-        i += 1;
+    for (i, register) in out.iter_mut().enumerate() {
+        *register = array4_read::get(s, regs, aux, (from + i) as u32);
     }
 }
 

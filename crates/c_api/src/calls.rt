@@ -4,7 +4,7 @@ ghost use Rattle.model.specs.Calls.{start_of, feed_of, unpacked_to, unpack_of, v
 ghost use Rattle.c_api.specs.Words.{narrowed, record_in};
 ghost use Rattle.c_api.specs.Worded.{worded, handed, two, two_of};
 
-use crate::record::{get, narrow, number, put};
+use crate::record::{get, narrow, nothing, number, parted, put};
 
 #[unsafe(no_mangle)]
 pub extern "C" fn lp_start(
@@ -17,10 +17,8 @@ pub extern "C" fn lp_start(
     ensures { worded result 0 words.new 0 regs.new aux.new ≡ handed words.old (start_of (narrowed kind) (narrowed lg_k) regs.old aux.old) }
 {
     let made = sketch::start(narrow(kind), narrow(lg_k), regs, aux);
-    let after = made.sketch;
-    put(words, after);
-    let answer = made.answer;
-    number(answer)
+    put(words, made.unwrap_or(nothing()));
+    number(made)
 }
 
 #[unsafe(no_mangle)]
@@ -34,11 +32,9 @@ pub extern "C" fn lp_feed(
 ) -> u32
     ensures { worded result 0 words.new taken.new regs.new aux.new ≡ handed words.old (feed_of (record_in words.old) regs.old aux.old scratch.old coupons.now) }
 {
-    let fed = sketch::feed(get(words), regs, aux, scratch, coupons);
-    let after = fed.sketch;
-    put(words, after);
+    let (fed, answer) = parted(sketch::feed(get(words), regs, aux, scratch, coupons));
+    put(words, fed.sketch);
     *taken = fed.taken;
-    let answer = fed.answer;
     number(answer)
 }
 
@@ -67,11 +63,10 @@ pub extern "C" fn lp_merge(
 ) -> u32
     ensures { worded result 0 target.new 0 tregs.new [] ≡ handed target.old (merge_of (record_in target.old) tregs.old (record_in source.now) sregs.now saux.now) }
 {
-    let made = sketch::merge(get(target), tregs, get(source), sregs, saux);
-    let after = made.sketch;
-    put(target, after);
-    let answer = made.answer;
-    number(answer)
+    let came = get(target);
+    let merged = sketch::merge(came, tregs, get(source), sregs, saux);
+    put(target, merged.unwrap_or(came));
+    number(merged)
 }
 
 // kxq0 and kxq1.
@@ -81,5 +76,5 @@ pub extern "C" fn lp_sums(words: &[u32; 5], regs: &[u8], aux: &[u32], sums: &mut
 {
     let found = sketch_sums::sums(get(words), regs, aux);
     *sums = [found.kxq0, found.kxq1];
-    found.answer as u32
+    u32::from(found.answer)
 }

@@ -5,7 +5,7 @@ ghost use Rattle.model.specs.Lists.{feed_image_of};
 ghost use Rattle.c_api.specs.Words.{record_in};
 ghost use Rattle.c_api.specs.Worded.{worded, handed};
 
-use crate::record::{get, number, put, told};
+use crate::record::{get, nothing, number, parted, put, told};
 
 #[unsafe(no_mangle)]
 pub extern "C" fn lp_write(
@@ -18,9 +18,8 @@ pub extern "C" fn lp_write(
     ensures { wrote result len.new out.new ≡ write_of (record_in words.now) regs.now aux.now out.old }
 {
     let written = image_write::write(get(words), regs, aux, out);
-    *len = written.len;
-    let answer = written.answer;
-    number(answer)
+    *len = written.unwrap_or(0);
+    number(written)
 }
 
 // `place`: where the image is wrong, if the answer says; else 0.
@@ -36,10 +35,8 @@ pub extern "C" fn lp_open(
     ensures { worded result place.new words.new 0 regs.new aux.new ≡ handed words.old (open_of image.now regs.old aux.old scratch.old) }
 {
     let opened = image_open::open(image, regs, aux, scratch);
-    let after = opened.sketch;
-    put(words, after);
-    let answer = opened.answer;
-    told(answer, place)
+    put(words, opened.unwrap_or(nothing()));
+    told(opened, place)
 }
 
 // `place`: the first zero word's position, if the answer is that there is one; else 0.
@@ -55,10 +52,8 @@ pub extern "C" fn lp_feed_image(
 ) -> u32
     ensures { worded result place.new words.new taken.new regs.new aux.new ≡ handed words.old (feed_image_of (record_in words.old) regs.old aux.old scratch.old image.now) }
 {
-    let fed = image_feed::feed_image(get(words), regs, aux, scratch, image);
-    let after = fed.sketch;
-    put(words, after);
+    let (fed, answer) = parted(image_feed::feed_image(get(words), regs, aux, scratch, image));
+    put(words, fed.sketch);
     *taken = fed.taken;
-    let answer = fed.answer;
     told(answer, place)
 }

@@ -4,8 +4,6 @@ ghost use Rattle.aux_map.specs.Sizes.{Listed, Sizable};
 ghost use Rattle.aux_map.specs.Search.{Replaceable};
 ghost use Rattle.aux_map.specs.Grow.{Insertable};
 
-use aux_map::{FindResult, Got};
-
 #[unsafe(no_mangle)]
 pub extern "C" fn lp_base_for(lg_k: u8) -> usize
     requires { Listed lg_k }
@@ -26,8 +24,8 @@ pub extern "C" fn lp_find(table: &[u32], slot: u32) -> u64
     requires { Room table.now }
 {
     match aux_map::find(table, slot) {
-        FindResult::Found(at) => at as u64 | 1 << 63,
-        FindResult::Empty(at) => at as u64,
+        Ok(at) => at as u64 | 1 << 63,
+        Err(at) => at as u64,
     }
 }
 
@@ -36,10 +34,7 @@ pub extern "C" fn lp_find(table: &[u32], slot: u32) -> u64
 pub extern "C" fn lp_get(table: &[u32], slot: u32) -> u8
     requires { Room table.now }
 {
-    match aux_map::get(table, slot) {
-        Got::Value(value) => value,
-        Got::Missing => 255,
-    }
+    aux_map::get(table, slot).unwrap_or(255)
 }
 
 #[unsafe(no_mangle)]

@@ -27,9 +27,5 @@ pub extern "C" fn lp_rebuild(
 pub extern "C" fn lp_check(area: &[u32], base: usize, count: usize) -> u8
     requires { Based base }
 {
-    if aux_table::check(area, base, count) {
-        1
-    } else {
-        0
-    }
+    u8::from(aux_table::check(area, base, count))
 }

@@ -5,7 +5,7 @@ ghost use Rattle.std.specs.Prelude.{◌≡◌, ◌^◌, ◌≤◌, ◌<◌};
 ghost use Rattle.model.specs.Coupon as book;
 
 // The slots that a word can name.
-pub const SLOTS: u32 = 67108864;
+pub const SLOTS: u32 = 1 << 26;
 
 pub fn value(word: u32) -> u8
     ensures { result ≡ book.value word }
@@ -32,7 +32,7 @@ pub fn word(slot: u32, value: u8) -> u32
     requires { (slot < 2 ^ 26) × (value < 64) }
     ensures { result ≡ book.word slot value }
 {
-    ((value as u32) << 26) + slot
+    (u32::from(value) << 26) + slot
 }
 
 // Whether it is the empty word. One with a slot and no value is not.

@@ -17,44 +17,44 @@ use Rattle.model.proofs.table.Sizes.{fours}
 use Rattle.model.proofs.image.SameSlots.{aux_other, by_words, aux_empty}
 use Rattle.image_faults.specs.Windows.{Judgeable}
 use Rattle.image_header.specs.Header as said-by
-use Rattle.image_header.specs.declared.Header.{Header}
+use Rattle.image_header.specs.declared.Image.{Image}
 use Rattle.image_header.proofs.Headers.{compact_is, words_are}
 use Rattle.image_check.specs.Passed.{Full}
 use Rattle.image_check.proofs.Passing.{formed, is_in, payload_here, words_here}
 use Rattle.image_check.proofs.Payload.{regs_part, regs_long, words_part, words_long}
 
-module _ (l : List ℕ) (h : Header) (fulls : ℕ) (full : Full l h fulls) where
-  is : said-by.record_in h ≡ sketch_in l
+module _ (i : Image) (fulls : ℕ) (full : Full i fulls) where
+  is : said-by.record_in i.header ≡ sketch_in i.bytes.now
   is = is_in full.sound.formed
 
-  pub other : (h.kind ≡ 4 → ⊥) → said 0 0 ≡ aux_in l
-  other n = sym (aux_other l (λ e. n (ap (λ (r : Sketch). r.kind) is ∙ e)))
+  pub other : (i.header.kind ≡ 4 → ⊥) → said 0 0 ≡ aux_in i.bytes.now
+  other n = sym (aux_other i.bytes.now (λ e. n (ap (λ (r : Sketch). r.kind) is ∙ e)))
 
-  module _ (four : h.kind ≡ 4) where
-    four_in : (sketch_in l).kind ≡ 4
+  module _ (four : i.header.kind ≡ 4) where
+    four_in : (sketch_in i.bytes.now).kind ≡ 4
     four_in = ap (λ (r : Sketch). r.kind) (sym is) ∙ four
 
     -- no words are counted, and no nibble is 15
-    pub none : h.aux_count ≡ 0 → fulls ≡ 0 → said 0 0 ≡ aux_in l
-    none z f = sym (aux_empty l four_in (ap (λ (r : Sketch). r.aux_count) (sym is) ∙ z) (sym (full.counted four) ∙ f))
+    pub none : i.header.aux_count ≡ 0 → fulls ≡ 0 → said 0 0 ≡ aux_in i.bytes.now
+    none z f = sym (aux_empty i.bytes.now four_in (ap (λ (r : Sketch). r.aux_count) (sym is) ∙ z) (sym (full.counted four) ∙ f))
 
-    module _ (n : ℕ) (bytes : n ≡ bytes_of h.kind h.lg_k) (many : ℕ) (words : many ≡ said-by.words_in h) where
+    module _ (n : ℕ) (bytes : n ≡ bytes_of i.header.kind i.header.lg_k) (many : ℕ) (words : many ≡ said-by.words_in i.header) where
       abbrev part : List ℕ
-      part = take (40 + n - 40) (drop 40 l)
+      part = take (40 + n - 40) (drop 40 i.bytes.now)
 
       abbrev tail : List ℕ
-      tail = take (length l - (40 + n)) (drop (40 + n) l)
+      tail = take (length i.bytes.now - (40 + n)) (drop (40 + n) i.bytes.now)
 
-      nibbles_are : unpacked 4 (2 ^ h.lg_k) part ≡ cells (sketch_in l) (regs_in l)
+      nibbles_are : unpacked 4 (2 ^ i.header.lg_k) part ≡ cells (sketch_in i.bytes.now) (regs_in i.bytes.now)
       unfolding cells
       nibbles_are =
-          ap (unpacked 4 (2 ^ h.lg_k)) (regs_part l (said-by.record_in h) is n bytes)
-          ∙ ap (λ (r : Sketch). unpacked 4 (2 ^ r.lg_k) (regs_in l)) is ∙ ap (λ (w : ℕ). unpacked w (2 ^ (sketch_in l).lg_k) (regs_in l)) (sym four_in)
+          ap (unpacked 4 (2 ^ i.header.lg_k)) (regs_part i.bytes.now (said-by.record_in i.header) is n bytes)
+          ∙ ap (λ (r : Sketch). unpacked 4 (2 ^ r.lg_k) (regs_in i.bytes.now)) is ∙ ap (λ (w : ℕ). unpacked w (2 ^ (sketch_in i.bytes.now).lg_k) (regs_in i.bytes.now)) (sym four_in)
 
-      words_in_lem : unpacked 32 many tail ≡ words_in l
-      words_in_lem = ap₂ (unpacked 32) (words ∙ words_are l h full.sound.formed.headed) (words_part l (said-by.record_in h) is n bytes)
+      words_in_lem : unpacked 32 many tail ≡ words_in i.bytes.now
+      words_in_lem = ap₂ (unpacked 32) (words ∙ words_are i.bytes.now i.header i.headed) (words_part i.bytes.now (said-by.record_in i.header) is n bytes)
 
-      pub judgeable : Judgeable h (take (40 + n - 40) (drop 40 l)) (take (length l - (40 + n)) (drop (40 + n) l)) many fulls
+      pub judgeable : Judgeable i.header (take (40 + n - 40) (drop 40 i.bytes.now)) (take (length i.bytes.now - (40 + n)) (drop (40 + n) i.bytes.now)) many fulls
       judgeable =
           let f = formed full.sound.formed in
           let payload = payload_here full.sound in
@@ -62,14 +62,14 @@ module _ (l : List ℕ) (h : Header) (fulls : ℕ) (full : Full l h fulls) where
             sweepable = record {
               high = f.1.1;
               few = rw words (words_here full.sound);
-              whole = omega (arith, words_long l (said-by.record_in h) is n bytes);
-              nibbles = omega (arith, regs_long l (said-by.record_in h) is n bytes (omega arith), bytes, if_four h.lg_k four, fours h.lg_k f.1.0);
+              whole = omega (arith, words_long i.bytes.now (said-by.record_in i.header) is n bytes);
+              nibbles = omega (arith, regs_long i.bytes.now (said-by.record_in i.header) is n bytes (omega arith), bytes, if_four i.header.lg_k four, fours i.header.lg_k f.1.0);
             };
             full = full.counted four ∙ ap (count_of 15) (sym nibbles_are);
           }
 
-      pub judged : aux_fault h.compact (2 ^ h.lg_k) h.cur_min h.aux_count (unpacked 32 many (take (length l - (40 + n)) (drop (40 + n) l))) (unpacked 4 (2 ^ h.lg_k) (take (40 + n - 40) (drop 40 l))) ≡ aux_in l
+      pub judged : aux_fault i.header.compact (2 ^ i.header.lg_k) i.header.cur_min i.header.aux_count (unpacked 32 many (take (length i.bytes.now - (40 + n)) (drop (40 + n) i.bytes.now))) (unpacked 4 (2 ^ i.header.lg_k) (take (40 + n - 40) (drop 40 i.bytes.now))) ≡ aux_in i.bytes.now
       judged =
-          ap₂ (aux_fault h.compact (2 ^ h.lg_k) h.cur_min h.aux_count) words_in_lem nibbles_are
-          ∙ ap₂ (λ (c : Bool) (r : Sketch). aux_fault c (2 ^ r.lg_k) r.cur_min r.aux_count (words_in l) (cells (sketch_in l) (regs_in l))) (compact_is l h full.sound.formed.headed) is
-          ∙ sym (by_words l four_in)
+          ap₂ (aux_fault i.header.compact (2 ^ i.header.lg_k) i.header.cur_min i.header.aux_count) words_in_lem nibbles_are
+          ∙ ap₂ (λ (c : Bool) (r : Sketch). aux_fault c (2 ^ r.lg_k) r.cur_min r.aux_count (words_in i.bytes.now) (cells (sketch_in i.bytes.now) (regs_in i.bytes.now))) (compact_is i.bytes.now i.header i.headed) is
+          ∙ sym (by_words i.bytes.now four_in)

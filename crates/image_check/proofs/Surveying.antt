@@ -10,22 +10,22 @@ use Rattle.model.specs.declared.Sketch.{Sketch}
 use Rattle.survey.specs.Survey.{Surveyable, Surveyed}
 use Rattle.survey.specs.declared.Seen.{Seen}
 use Rattle.image_header.specs.Header.{record_in}
-use Rattle.image_header.specs.declared.Header.{Header}
+use Rattle.image_header.specs.declared.Image.{Image}
 use Rattle.image_check.specs.Passed.{Sound, Full}
 use Rattle.image_check.proofs.Passing.{formed, is_in, counts_here, payload_here}
 use Rattle.image_check.proofs.Payload.{regs_part, regs_long}
 
-module _ {l : List ℕ} {h : Header} (ok : Sound l h) (n : ℕ) (e : n ≡ bytes_of h.kind h.lg_k) where
-  pub surveyable : Surveyable (record_in h) (take (40 + n - 40) (drop 40 l))
+module _ {i : Image} (ok : Sound i) (n : ℕ) (e : n ≡ bytes_of i.header.kind i.header.lg_k) where
+  pub surveyable : Surveyable (record_in i.header) (take (40 + n - 40) (drop 40 i.bytes.now))
   surveyable =
       let f = formed ok.formed in
-      let long = regs_long l (record_in h) (is_in ok.formed) n e (omega (arith, payload_here ok)) in
+      let long = regs_long i.bytes.now (record_in i.header) (is_in ok.formed) n e (omega (arith, payload_here ok)) in
       record { shaped = record { kind_known = f.0; low = f.1.0; high = f.1.1; long = long ∙ e }; counts = counts_here ok }
 
-  pub surveyed : {seen : Seen} → Surveyed (record_in h) (take (40 + n - 40) (drop 40 l)) seen → Surveyed (sketch_in l) (regs_in l) seen
+  pub surveyed : {seen : Seen} → Surveyed (record_in i.header) (take (40 + n - 40) (drop 40 i.bytes.now)) seen → Surveyed (sketch_in i.bytes.now) (regs_in i.bytes.now) seen
   surveyed {seen} told =
-      subst (λ (s : Sketch). Surveyed s (regs_in l) seen) (is_in ok.formed)
-      (subst (λ (regs : List ℕ). Surveyed (record_in h) regs seen) (regs_part l (record_in h) (is_in ok.formed) n e) told)
+      subst (λ (s : Sketch). Surveyed s (regs_in i.bytes.now) seen) (is_in ok.formed)
+      (subst (λ (regs : List ℕ). Surveyed (record_in i.header) regs seen) (regs_part i.bytes.now (record_in i.header) (is_in ok.formed) n e) told)
 
-  pub full : {seen : Seen} → Surveyed (record_in h) (take (40 + n - 40) (drop 40 l)) seen → Full l h seen.tokens
+  pub full : {seen : Seen} → Surveyed (record_in i.header) (take (40 + n - 40) (drop 40 i.bytes.now)) seen → Full i seen.tokens
   full told = record { sound = ok; counted = λ four. (surveyed told).tokens (ap (λ (s : Sketch). s.kind) (sym (is_in ok.formed)) ∙ four) }

@@ -1,4 +1,5 @@
 -- A word in a window, by each way it can go. Assumes nothing.
+use Rattle.std.specs.Prelude.{None, Some, Ok, Err}
 use mathlib.Core.Path.{◌≡◌, refl, sym, ◌∙◌, ap}
 use mathlib.Core.Bool.{Bool, true, false}
 use mathlib.Core.List.{List}
@@ -14,48 +15,56 @@ use Rattle.model.specs.Faults.{lists}
 use Rattle.model.proofs.packing.Packing.{put_same, put_other}
 use Rattle.model.proofs.table.FirstLaws.{true_not_false}
 use Rattle.image_header.specs.declared.Header.{Header}
-use Rattle.image_faults.specs.declared.Seen.{Seen}
-use Rattle.image_faults.specs.Windows.{slots, bit, fault_by, Turned}
+use Rattle.image_faults.specs.declared.Fault.{Fault}
+use Rattle.image_faults.specs.declared.Fault.TheVariants.{Empty, Twice, Low}
+use Rattle.image_faults.specs.Windows.{slots, bit, no_of, fault_by, Turned}
 
 module _ (h : Header) (b : ℕ) (g : ℕ → ℕ) (marks : List ℕ) (w : ℕ) where
-  wrong : (r : Seen) → 0 < r.no → r.no ≡ fault_by h b (bit marks (home (slots h) w % 524288)) w → (exit : List ℕ) → Turned h b g marks w r exit
-  wrong r pos e exit = record { says = e; counted = λ z. absurd (omega arith); even = λ z. absurd (omega arith); marked = λ z. absurd (omega arith) }
+  wrong : (e : Fault) → no_of (Some e) ≡ fault_by h b (bit marks (home (slots h) w % 524288)) w → (exit : List ℕ) → Turned h b g marks w (Err e) exit
+  wrong e says exit = record { says = says; taken = tt }
 
-  pub turn_empty : is_empty w ≡ true → {n : ℕ} → n ≡ pick h.compact 21 0 → Turned h b g marks w (record { no = n; entry = 0; even = true }) marks
+  pub turn_empty : is_empty w ≡ true → h.compact ≡ true → (exit : List ℕ) → Turned h b g marks w (Err Empty) exit
+  unfolding fault_by
+  turn_empty e c = wrong Empty (rw (e, c) refl)
+
+  pub turn_passed : is_empty w ≡ true → h.compact ≡ false → Turned h b g marks w (Ok None) marks
   unfolding fault_by lists
-  turn_empty e c = record { says = rw e c; counted = λ z. rw e refl; even = λ z y some. absurd (true_not_false e some); marked = λ z s l. rw e refl }
+  turn_passed e c = record {
+    says = rw (e, c) refl;
+    taken = record { counted = rw e refl; even = λ y some. absurd (true_not_false e some); marked = λ s l. rw e refl };
+  }
 
   module _ (some : is_empty w ≡ false) (at : ℕ) (is : at ≡ home (slots h) w) where
     not_listed : (s : ℕ) → (s ≡ at → ⊥) → lists (slots h) s w ≡ false
     unfolding lists
     not_listed s d = rw (some, ne_eqb (home (slots h) w) s (λ e. d (sym (is ∙ e)))) refl
 
-    pub turn_other : (at / 524288 ≡ b → ⊥) → Turned h b g marks w (record { no = 0; entry = 1; even = true }) marks
+    pub turn_other : (at / 524288 ≡ b → ⊥) → Turned h b g marks w (Ok (Some true)) marks
     unfolding fault_by
     turn_other d = record {
       says = rw (some, ← is, ne_eqb (at / 524288) b d) refl;
-      counted = λ z. rw some refl;
-      even = λ z y x e. absurd (d (ap (λ (n : ℕ). n / 524288) is ∙ e));
-      marked = λ z s l. sym (ap (λ (t : Bool). pick t true (bit marks (s % 524288))) (not_listed s (λ e. d (ap (λ (n : ℕ). n / 524288) (sym e) ∙ l))));
+      taken = record {
+        counted = rw some refl;
+        even = λ y x e. absurd (d (ap (λ (n : ℕ). n / 524288) is ∙ e));
+        marked = λ s l. sym (ap (λ (t : Bool). pick t true (bit marks (s % 524288))) (not_listed s (λ e. d (ap (λ (n : ℕ). n / 524288) (sym e) ∙ l))));
+      };
     }
 
     module _ (here : at / 524288 ≡ b) where
-      pub turn_twice : bit marks (at % 524288) ≡ true → (exit : List ℕ) → Turned h b g marks w (record { no = 22; entry = 1; even = true }) exit
+      pub turn_twice : bit marks (at % 524288) ≡ true → (exit : List ℕ) → Turned h b g marks w (Err Twice) exit
       unfolding fault_by
-      turn_twice e = wrong (record { no = 22; entry = 1; even = true }) (omega arith) (rw (some, ← is, eq-eqb (at / 524288) b here, e) refl)
+      turn_twice e = wrong Twice (rw (some, ← is, eq-eqb (at / 524288) b here, e) refl)
 
       module _ (new : bit marks (at % 524288) ≡ false) where
-        pub turn_low : value w < h.cur_min + 15 → (exit : List ℕ) → Turned h b g marks w (record { no = 23; entry = 1; even = true }) exit
+        pub turn_low : value w < h.cur_min + 15 → (exit : List ℕ) → Turned h b g marks w (Err Low) exit
         unfolding fault_by
-        turn_low l = wrong (record { no = 23; entry = 1; even = true }) (omega arith) (rw (some, ← is, eq-eqb (at / 524288) b here, new, lt-leb (h.cur_min + 15) (value w) l) refl)
+        turn_low l = wrong Low (rw (some, ← is, eq-eqb (at / 524288) b here, new, lt-leb (h.cur_min + 15) (value w) l) refl)
 
-        pub turn_new : h.cur_min + 15 ≤ value w → (exit : List ℕ) → Put 1 marks (at % 524288) 1 exit → {t : Bool} → (t ≡ true → g at ≡ 15) → Turned h b g marks w (record { no = 0; entry = 1; even = t }) exit
+        pub turn_new : h.cur_min + 15 ≤ value w → (exit : List ℕ) → Put 1 marks (at % 524288) 1 exit → {t : Bool} → (t ≡ true → g at ≡ 15) → Turned h b g marks w (Ok (Some t)) exit
         unfolding fault_by lists
         turn_new l exit put full = record {
           says = rw (some, ← is, eq-eqb (at / 524288) b here, new, le-leb (h.cur_min + 15) (value w) l) refl;
-          counted = λ z. rw some refl;
-          even = λ z y x e. ap g (sym is) ∙ full y;
-          marked = λ z s e. go s e (ℕ_discrete s at);
+          taken = record { counted = rw some refl; even = λ y x e. ap g (sym is) ∙ full y; marked = λ s e. go s e (ℕ_discrete s at) };
         }
           where
             go : (s : ℕ) → s / 524288 ≡ b → Dec (s ≡ at) → bit exit (s % 524288) ≡ pick (lists (slots h) s w) true (bit marks (s % 524288))

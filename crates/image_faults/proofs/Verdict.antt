@@ -1,8 +1,10 @@
 -- A sweep, the count, and if need be a sweep that looks: together what the book asks for. Assumes nothing.
-use mathlib.Core.Path.{◌≡◌, refl, sym, ◌∙◌}
+use Rattle.std.specs.Prelude.{Option, None, Some, IfSome, unwrap_or}
+use mathlib.Core.Path.{◌≡◌, refl, sym, ◌∙◌, ap, subst}
+use native.Mathlib.Nat.{le_refl}
 use mathlib.Core.Bool.{Bool, true, false}
 use mathlib.Core.List.{List}
-use Prim.Native.Nat.{ℕ, ◌≤◌, ◌<◌}
+use Prim.Native.Nat.{ℕ, ◌<◌}
 use native.Mathlib.Decide.{ℕ_discrete}
 use native.Mathlib.Omega.{arith}
 use lib.Dec.{eqb, ltb}
@@ -14,22 +16,11 @@ use Rattle.model.specs.Table.{filled}
 use Rattle.model.specs.Answers.{Said, said}
 use Rattle.model.specs.Faults.{fault_at, unmatched, aux_fault}
 use Rattle.model.specs.Sketch.{sketch_of}
-use Rattle.model.proofs.image.Faults.{Says, right, empty, twice, low_one, fault_says}
 use Rattle.model.proofs.image.SameSlots.{even_none}
 use Rattle.image_header.specs.declared.Header.{Header}
 use Rattle.image_faults.specs.declared.View.{View}
-use Rattle.image_faults.specs.Windows.{slots, Swept}
+use Rattle.image_faults.specs.Windows.{slots, no_of, Swept}
 use Rattle.image_faults.proofs.Firsts.{found_first, least_first}
-
--- the numbers that a word can have
-fault_numbers : (compact : Bool) (k low : ℕ) (ws : List ℕ) (i n : ℕ) → n ≡ fault_at compact k low ws i → (n ≡ 0 → ⊥) → (n ≡ 21 → ⊥) → (n ≡ 22 → ⊥) → n ≡ 23
-fault_numbers compact k low ws i n e x y z = go (fault_says compact k low ws i)
-  where
-    go : Says compact k low ws i (fault_at compact k low ws i) → n ≡ 23
-    go (right r q) = absurd (x (e ∙ q))
-    go (empty p q) = absurd (y (e ∙ q))
-    go (twice p q) = absurd (z (e ∙ q))
-    go (low_one t p q) = e ∙ q
 
 module _ {look : Bool} {h : Header} {ws ns : List ℕ} {v : View} (s : Swept look h ws ns v) where
   abbrev answer : Said
@@ -40,13 +31,10 @@ module _ {look : Bool} {h : Header} {ws ns : List ℕ} {v : View} (s : Swept loo
   unfolding aux_fault
   by_first = rw (found_first s.found) refl
 
-  pub is_word : (v.walk.no ≡ 0 → ⊥) → (v.walk.no ≡ 21 → ⊥) → (v.walk.no ≡ 22 → ⊥) → v.walk.no ≡ 23
-  is_word ne = fault_numbers h.compact (slots h) h.cur_min ws v.walk.at v.walk.no (s.found.here ne).1 ne
-
-  pub is_fault : (v.walk.no ≡ 0 → ⊥) → said v.walk.no v.walk.at ≡ answer
+  pub is_fault : (no_of v.walk.fault ≡ 0 → ⊥) → said (no_of v.walk.fault) v.walk.at ≡ answer
   is_fault ne = let p = s.found.here ne in sym (by_first ∙ rw (lt-ltb v.walk.at (length ws) p.0, ← p.1) refl)
 
-  module _ (z : v.walk.no ≡ 0) where
+  module _ (z : no_of v.walk.fault ≡ 0) where
     past : ltb v.walk.at (length ws) ≡ false
     past = le-ltb v.walk.at (length ws) (omega (arith, s.found.none z))
 
@@ -65,18 +53,20 @@ module _ {look : Bool} {h : Header} {ws ns : List ℕ} {v : View} (s : Swept loo
 
       module _ {u : View} (again : Swept true h ws ns u) where
         -- nothing is wrong with the words the second time
-        clean : u.walk.no ≡ 0
-        clean = go (ℕ_discrete u.walk.no 0)
+        clean : no_of u.walk.fault ≡ 0
+        clean = go (ℕ_discrete (no_of u.walk.fault) 0)
           where
-            go : Dec (u.walk.no ≡ 0) → u.walk.no ≡ 0
+            go : Dec (no_of u.walk.fault ≡ 0) → no_of u.walk.fault ≡ 0
             go (yes e) = e
             go (no d) = let o = again.found.here d in absurd (d (o.1 ∙ s.found.before u.walk.at (omega (arith, o.0, s.found.none z))))
 
-        slot_first : first (unmatched (slots h) ws ns) (slots h) ≡ u.slot
-        slot_first = least_first (again.least refl clean)
+        slot_first : first (unmatched (slots h) ws ns) (slots h) ≡ unwrap_or u.slot (slots h)
+        slot_first = least_first (again.least refl clean).least
 
-        pub is_match : u.slot < slots h → said 25 u.slot ≡ answer
-        is_match l = sym (by_slot u.slot slot_first ∙ rw (lt-ltb u.slot (slots h) l) refl)
+        pub is_match : {t : ℕ} → u.slot ≡ Some t → said 25 t ≡ answer
+        is_match {t} e =
+            let inside : t < slots h = subst (λ (o : Option ℕ). IfSome o (λ t. t < slots h)) e (again.least refl clean).inside in
+            sym (by_slot t (slot_first ∙ ap (λ (o : Option ℕ). unwrap_or o (slots h)) e) ∙ rw (lt-ltb t (slots h) inside) refl)
 
-        pub is_fine : slots h ≤ u.slot → said 0 0 ≡ answer
-        is_fine l = sym (by_slot u.slot slot_first ∙ rw (le-ltb u.slot (slots h) l) refl)
+        pub is_fine : u.slot ≡ None → said 0 0 ≡ answer
+        is_fine e = sym (by_slot (slots h) (slot_first ∙ ap (λ (o : Option ℕ). unwrap_or o (slots h)) e) ∙ rw (le-ltb (slots h) (slots h) (le_refl (slots h))) refl)

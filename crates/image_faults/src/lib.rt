@@ -2,14 +2,13 @@
 #![tactic(auto)]
 
 ghost use Rattle.std.specs.Prelude.{◌≡◌, true, false, ◌+◌, ◌*◌, ◌^◌, ◌≤◌, ◌<◌, min, length};
-ghost use Rattle.model.specs.Pick.{pick};
 ghost use Rattle.model.specs.Packed.{slot_at, unpacked, Put};
-ghost use Rattle.model.specs.Answers.{said, said_of};
+ghost use Rattle.model.specs.Answers.{refusal_no, refusal_place, said_of};
 ghost use Rattle.model.specs.Faults.{aux_fault};
-ghost use Rattle.image_faults.specs.Windows.{bit, Turned, Passed, Least, unlike_at, Viewed, Clear, Sweepable, Sweeping, Swept, Judgeable};
+ghost use Rattle.image_faults.specs.Windows.{bit, no_of, Turned, Passed, LeastIn, unlike_at, Viewed, Clear, Sweepable, Sweeping, Swept, Judgeable};
 
 use image_header::Header;
-use model::Answer;
+use model::Refusal;
 
 // The slots of a window: the bits of a bitmap of 64 KiB.
 const WINDOW: u32 = 524288;
@@ -37,323 +36,252 @@ fn mark(marks: &mut [u8], s: u32)
 
 // ---- the words, for one window
 
-// The second form passes over an empty word.
-fn empty_no(compact: bool) -> u8
-    ensures { result ≡ pick compact 21 0 }
-{
-    if compact {
-        return 21;
-    }
-    0
-}
-
-// What a word is: its number in the table of refusals, or 0; 1 for an entry; and not an entry of the window whose nibble is other than 15.
+// What can be wrong with a word.
 #[derive(Clone, Copy)]
-pub struct Seen {
-    pub no: u8,
-    pub entry: usize,
-    pub even: bool,
+pub enum Fault {
+    Empty,
+    Twice,
+    Low,
 }
 
-// All that is asked of a word, so that its window is tested once. In its window, an entry that is not wrong is marked.
-fn turn(h: Header, b: u32, bytes: &[u8], marks: &mut [u8], w: u32) -> Seen
-    requires { (h.lg_k ≤ 21) × (2 ^ h.lg_k ≤ 2 * length bytes.now) × (min (2 ^ h.lg_k) 524288 ≤ 8 * length marks.old) }
-    ensures { Turned h b (slot_at 4 bytes.now) marks.old w result marks.new }
-{
-    let none = coupon::is_empty(w);
-    if none {
-        let no = empty_no(h.compact);
-        return Seen {
-            no,
-            entry: 0,
-            even: true,
-        };
-    }
-    let slot = coupon::home(h.lg_k, w);
-    if slot / WINDOW != b {
-        return Seen {
-            no: 0,
-            entry: 1,
-            even: true,
-        };
-    }
-    let low = (coupon::value(w) as u32) < (h.cur_min as u32) + 15;
-    let before = marked(marks, slot % WINDOW);
-    if before {
-        return Seen {
-            no: 22,
-            entry: 1,
-            even: true,
-        };
-    }
-    if low {
-        return Seen {
-            no: 23,
-            entry: 1,
-            even: true,
-        };
-    }
-    mark(marks, slot % WINDOW);
-    let even = packed::four::get_raw(bytes, slot) == 15;
-    Seen {
-        no: 0,
-        entry: 1,
-        even,
-    }
-}
-
-// Even so far, and here: so for words, and for windows.
-fn and(a: bool, b: bool) -> bool
-    ensures { result ≡ true → (a ≡ true) × (b ≡ true) }
-{
-    if a {
-        return b;
-    }
-    false
-}
-
-// The first word that is wrong and its number, or 0; the entries before it, and whether the nibbles of those are 15.
+// The first word that is wrong and how; the entries before it, and whether the nibbles of those are 15.
 #[derive(Clone, Copy)]
 pub struct Walk {
-    pub no: u8,
+    pub fault: Option<Fault>,
     pub at: usize,
     pub entries: usize,
     pub even: bool,
 }
 
-// The words before limit. All entries are counted, so that any window's count is the image's.
-fn pass(h: Header, b: u32, bytes: &[u8], words: &[u8], limit: usize, marks: &mut [u8]) -> Walk
-    requires { Sweepable h bytes.now words.now limit × Clear h marks.old }
-    ensures { Passed h b (slot_at 32 words.now) (slot_at 4 bytes.now) limit result marks.new }
-{
-    let mut even = true;
-    let mut n = 0;
-    let mut i = 0;
-    while i < limit {
-        let w = packed::words::word_at(words, i);
-        let t = turn(h, b, bytes, marks, w);
-        if t.no != 0 {
-            return Walk {
-                no: t.no,
-                at: i,
-                entries: n,
-                even,
-            };
-        }
-        even = and(even, t.even);
-        n += t.entry;
-        i += 1;
-    }
-    Walk {
-        no: 0,
-        at: i,
-        entries: n,
-        even,
-    }
-}
-
 // ---- the slots of a window
 
-// The first slot whose nibble and mark tell different things, or the end.
-fn unlike(bytes: &[u8], marks: &[u8], from: u32, to: u32) -> u32
+// The first slot whose nibble and mark tell different things.
+fn unlike(bytes: &[u8], marks: &[u8], from: u32, to: u32) -> Option<u32>
     requires { (from ≤ to) × (to ≤ 2 * length bytes.now) × (min to 524288 ≤ 8 * length marks.now) }
-    ensures { Least (unlike_at (slot_at 4 bytes.now) marks.now) from to result }
+    ensures { LeastIn (unlike_at (slot_at 4 bytes.now) marks.now) from to result }
 {
-    let mut s = from;
-    while s < to {
+    for s in from..to {
         let full = packed::four::get_raw(bytes, s) == 15;
         let here = marked(marks, s % WINDOW);
         if full != here {
-            return s;
+            return Some(s);
         }
-        s += 1;
     }
-    s
+    None
 }
 
-// The number of registers, which ends the last window.
-fn size_of(lg_k: u8) -> u32
-    requires { lg_k ≤ 21 }
-    ensures { result ≡ 2 ^ lg_k }
-{
-    1u32 << lg_k
-}
-
-// The last window may be the whole sketch, and shorter.
-fn lesser(a: u32, b: u32) -> u32
-    ensures { result ≡ min a b }
-{
-    if a < b { a } else { b }
-}
-
-// The walk over the words and the window's first slot that is unlike.
+// The walk over the words and, where they were looked at, the first slot that is unlike.
 #[derive(Clone, Copy)]
 pub struct View {
     pub walk: Walk,
-    pub slot: u32,
-}
-
-// A window, with the bitmap lent. The slots are looked at only on demand.
-fn window_in(
-    h: Header,
-    b: u32,
-    look: bool,
-    bytes: &[u8],
-    words: &[u8],
-    limit: usize,
-    marks: &mut [u8],
-) -> View
-    requires { Sweepable h bytes.now words.now limit × Clear h marks.old × (b * 524288 < 2 ^ h.lg_k) }
-    ensures { Viewed look h b (slot_at 32 words.now) (slot_at 4 bytes.now) limit result }
-{
-    let walk = pass(h, b, bytes, words, limit, marks);
-    if !look {
-        return View { walk, slot: 0 };
-    }
-    let end = lesser((b + 1) * WINDOW, size_of(h.lg_k));
-    let slot = unlike(bytes, marks, b * WINDOW, end);
-    View { walk, slot }
-}
-
-// ---- a small sketch: one window, and no larger a bitmap than its slots need, since clearing it can cost more than the words do
-
-fn small(h: Header, look: bool, bytes: &[u8], words: &[u8], many: usize) -> View
-    requires { Sweepable h bytes.now words.now many × (h.lg_k ≤ 12) }
-    ensures { Viewed look h 0 (slot_at 32 words.now) (slot_at 4 bytes.now) many result }
-{
-    let mut marks = [0u8; 512];
-    window_in(h, 0, look, bytes, words, many, &mut marks)
-}
-
-fn middle(h: Header, look: bool, bytes: &[u8], words: &[u8], many: usize) -> View
-    requires { Sweepable h bytes.now words.now many × (h.lg_k ≤ 17) }
-    ensures { Viewed look h 0 (slot_at 32 words.now) (slot_at 4 bytes.now) many result }
-{
-    let mut marks = [0u8; 16384];
-    window_in(h, 0, look, bytes, words, many, &mut marks)
-}
-
-fn whole(h: Header, look: bool, bytes: &[u8], words: &[u8], many: usize) -> View
-    requires { Sweepable h bytes.now words.now many × (h.lg_k ≤ 17) }
-    ensures { Viewed look h 0 (slot_at 32 words.now) (slot_at 4 bytes.now) many result }
-{
-    if h.lg_k <= 12 {
-        return small(h, look, bytes, words, many);
-    }
-    middle(h, look, bytes, words, many)
+    pub slot: Option<u32>,
 }
 
 // ---- all windows, one after the other
 
-fn large(h: Header, b: u32, look: bool, bytes: &[u8], words: &[u8], limit: usize) -> View
-    requires { Sweepable h bytes.now words.now limit × (b * 524288 < 2 ^ h.lg_k) }
-    ensures { Viewed look h b (slot_at 32 words.now) (slot_at 4 bytes.now) limit result }
-{
-    let mut marks = [0u8; 65536];
-    window_in(h, b, look, bytes, words, limit, &mut marks)
+// A kind 4 image as a sweep reads it: its header, a nibble for each slot, and so many exception words.
+#[derive(Clone, Copy)]
+struct Image<'a> {
+    header: Header,
+    nibbles: &'a [u8],
+    words: &'a [u8],
+    many: usize,
+    ghost sweepable: { Sweepable header nibbles.now words.now many },
 }
 
-// What a later window found stands before what was found, or is nothing.
-fn later(old: u8, new: u8) -> u8
-    ensures { (new ≡ 0 → result ≡ old) × ((new ≡ 0 → ⊥) → result ≡ new) }
-{
-    if new == 0 {
-        return old;
+impl Image<'_> {
+    // The number of registers, which ends the last window.
+    fn slots(&self) -> u32
+        ensures { result ≡ 2 ^ self.now.header.lg_k }
+    {
+        1u32 << self.header.lg_k
     }
-    new
-}
 
-// A slot found in a window below is before all of this one.
-fn lowest(slot: u32, base: u32, new: u32) -> u32
-    ensures { (slot < base → result ≡ slot) × (base ≤ slot → result ≡ new) }
-{
-    if slot < base {
-        return slot;
+    // All that is asked of a word, so that its window is tested once. An empty one that is passed over is None; an entry tells whether its nibble is 15, or that it is of another window. In its window, an entry that is not wrong is marked.
+    fn turn(&self, b: u32, marks: &mut [u8], w: u32) -> Result<Option<bool>, Fault>
+        requires { min (2 ^ self.now.header.lg_k) 524288 ≤ 8 * length marks.old }
+        ensures { Turned self.now.header b (slot_at 4 self.now.nibbles.now) marks.old w result marks.new }
+    {
+        let none = coupon::is_empty(w);
+        if none {
+            if self.header.compact {
+                return Err(Fault::Empty);
+            }
+            // The second form passes over an empty word.
+            return Ok(None);
+        }
+        let slot = coupon::home(self.header.lg_k, w);
+        if slot / WINDOW != b {
+            return Ok(Some(true));
+        }
+        let low = u32::from(coupon::value(w)) < u32::from(self.header.cur_min) + 15;
+        let before = marked(marks, slot % WINDOW);
+        if before {
+            return Err(Fault::Twice);
+        }
+        if low {
+            return Err(Fault::Low);
+        }
+        mark(marks, slot % WINDOW);
+        let even = packed::four::get_raw(self.nibbles, slot) == 15;
+        Ok(Some(even))
     }
-    new
-}
 
-// The windows before b: a word that is wrong in one bounds the walk of the next. By recursion, since a function that calls itself is not inlined: the frames of `whole` and `large` are then no caller's.
-fn windows(h: Header, b: u32, look: bool, bytes: &[u8], words: &[u8], many: usize) -> View
-    requires { Sweepable h bytes.now words.now many × (b * 524288 < 2 ^ h.lg_k + 524288) }
-    ensures { Sweeping look h (slot_at 32 words.now) (slot_at 4 bytes.now) many b result.walk.no result.walk.at result.walk.entries result.walk.even result.slot }
-{
-    if b == 0 {
-        return View {
-            walk: Walk {
-                no: 0,
-                at: many,
-                entries: 0,
-                even: true,
-            },
-            slot: 0,
-        };
-    }
-    if h.lg_k <= 17 {
-        return whole(h, look, bytes, words, many);
-    }
-    let last = b - 1;
-    let u = windows(h, last, look, bytes, words, many);
-    let v = large(h, last, look, bytes, words, u.walk.at);
-    let no = later(u.walk.no, v.walk.no);
-    let even = and(u.walk.even, v.walk.even);
-    let slot = lowest(u.slot, last * WINDOW, v.slot);
-    View {
-        walk: Walk {
-            no,
-            at: v.walk.at,
-            entries: v.walk.entries,
+    // The words before limit. All entries are counted, so that any window's count is the image's.
+    fn pass(&self, b: u32, limit: usize, marks: &mut [u8]) -> Walk
+        requires { (limit ≤ self.now.many) × Clear self.now.header marks.old }
+        ensures { Passed self.now.header b (slot_at 32 self.now.words.now) (slot_at 4 self.now.nibbles.now) limit result marks.new }
+    {
+        let mut entries = 0;
+        let mut even = true;
+        for i in 0..limit {
+            let w = packed::words::word_at(self.words, i);
+            match self.turn(b, marks, w) {
+                Ok(None) => continue,
+                Ok(Some(here)) => {
+                    entries += 1;
+                    even = even && here;
+                }
+                Err(fault) => {
+                    return Walk {
+                        fault: Some(fault),
+                        at: i,
+                        entries,
+                        even,
+                    };
+                }
+            }
+        }
+        Walk {
+            fault: None,
+            at: limit,
+            entries,
             even,
-        },
-        slot,
+        }
     }
-}
 
-// All of them: the last may be short.
-fn sweep(h: Header, look: bool, bytes: &[u8], words: &[u8], many: usize) -> View
-    requires { Sweepable h bytes.now words.now many }
-    ensures { Swept look h (unpacked 32 many words.now) (unpacked 4 (2 ^ h.lg_k) bytes.now) result }
-{
-    let b = (size_of(h.lg_k) - 1) / WINDOW + 1;
-    windows(h, b, look, bytes, words, many)
+    // A window, with the bitmap lent. The slots are looked at only on demand.
+    fn window_in(&self, b: u32, look: bool, limit: usize, marks: &mut [u8]) -> View
+        requires { (limit ≤ self.now.many) × Clear self.now.header marks.old × (b * 524288 < 2 ^ self.now.header.lg_k) }
+        ensures { Viewed look self.now.header b (slot_at 32 self.now.words.now) (slot_at 4 self.now.nibbles.now) limit result }
+    {
+        let walk = self.pass(b, limit, marks);
+        if !look {
+            return View { walk, slot: None };
+        }
+        // The last window may be the whole sketch, and shorter.
+        let end = ((b + 1) * WINDOW).min(self.slots());
+        let slot = unlike(self.nibbles, marks, b * WINDOW, end);
+        View { walk, slot }
+    }
+
+    // A window, with a bitmap of N bytes.
+    fn by_bitmap<const N: usize>(&self, b: u32, look: bool, limit: usize) -> View
+        requires { (limit ≤ self.now.many) × (b * 524288 < 2 ^ self.now.header.lg_k) × (min (2 ^ self.now.header.lg_k) 524288 ≤ 8 * N) × (N ≤ 65536) }
+        ensures { Viewed look self.now.header b (slot_at 32 self.now.words.now) (slot_at 4 self.now.nibbles.now) limit result }
+    {
+        let mut marks = [0u8; N];
+        self.window_in(b, look, limit, &mut marks)
+    }
+
+    // A small sketch: one window, and no larger a bitmap than its slots need, since clearing it can cost more than the words do.
+    fn whole(&self, look: bool) -> View
+        requires { self.now.header.lg_k ≤ 17 }
+        ensures { Viewed look self.now.header 0 (slot_at 32 self.now.words.now) (slot_at 4 self.now.nibbles.now) self.now.many result }
+    {
+        if self.header.lg_k <= 12 {
+            self.by_bitmap::<512>(0, look, self.many)
+        } else {
+            self.by_bitmap::<16384>(0, look, self.many)
+        }
+    }
+
+    // The windows before b: a word that is wrong in one bounds the walk of the next. By recursion, since a function that calls itself is not inlined: the frames of `whole` and of `by_bitmap` are then no caller's.
+    fn windows(&self, b: u32, look: bool) -> View
+        requires { b * 524288 < 2 ^ self.now.header.lg_k + 524288 }
+        ensures { Sweeping look self.now.header (slot_at 32 self.now.words.now) (slot_at 4 self.now.nibbles.now) self.now.many b (no_of result.walk.fault) result.walk.at result.walk.entries result.walk.even result.slot }
+    {
+        if b == 0 {
+            return View {
+                walk: Walk {
+                    fault: None,
+                    at: self.many,
+                    entries: 0,
+                    even: true,
+                },
+                slot: None,
+            };
+        }
+        if self.header.lg_k <= 17 {
+            return self.whole(look);
+        }
+        let last = b - 1;
+        let u = self.windows(last, look);
+        let v = self.by_bitmap::<65536>(last, look, u.walk.at);
+        // What a later window found stands before what was found, and a slot found in a window below before all of this one.
+        let even = u.walk.even && v.walk.even;
+        View {
+            walk: Walk {
+                fault: v.walk.fault.or(u.walk.fault),
+                at: v.walk.at,
+                entries: v.walk.entries,
+                even,
+            },
+            slot: u.slot.or(v.slot),
+        }
+    }
+
+    // All of them: the last may be short.
+    fn sweep(&self, look: bool) -> View
+        ensures { Swept look self.now.header (unpacked 32 self.now.many self.now.words.now) (unpacked 4 (2 ^ self.now.header.lg_k) self.now.nibbles.now) result }
+    {
+        let b = (self.slots() - 1) / WINDOW + 1;
+        self.windows(b, look)
+    }
 }
 
 // ---- the answer
 
-// The answer that a word's number names.
-fn wrong_word(no: u8, at: u32) -> Answer
-    requires { (no ≡ 21 → ⊥) → (no ≡ 22 → ⊥) → no ≡ 23 }
-    ensures { said_of result ≡ said no at }
+// The refusal of a word that is wrong.
+fn refusal(fault: Fault, at: u32) -> Refusal
+    ensures { (refusal_no result ≡ no_of (Some fault)) × (refusal_place result ≡ at) }
 {
-    if no == 21 {
-        return Answer::AuxEmpty(at);
+    match fault {
+        Fault::Empty => Refusal::AuxEmpty(at),
+        Fault::Twice => Refusal::AuxTwice(at),
+        Fault::Low => Refusal::AuxLow(at),
     }
-    if no == 22 {
-        return Answer::AuxTwice(at);
-    }
-    Answer::AuxLow(at)
 }
 
 // As many entries as nibbles of 15, each entry's nibble 15 and no slot twice make one set: only where that is not known are the slots looked at.
-pub fn aux_fault(h: Header, bytes: &[u8], words: &[u8], many: usize, fulls: u32) -> Answer
+pub fn aux_fault(
+    h: Header,
+    bytes: &[u8],
+    words: &[u8],
+    many: usize,
+    fulls: u32,
+) -> Result<(), Refusal>
     requires { Judgeable h bytes.now words.now many fulls }
     ensures { said_of result ≡ aux_fault h.compact (2 ^ h.lg_k) h.cur_min h.aux_count (unpacked 32 many words.now) (unpacked 4 (2 ^ h.lg_k) bytes.now) }
 {
-    let v = sweep(h, false, bytes, words, many);
-    if v.walk.no != 0 {
-        return wrong_word(v.walk.no, v.walk.at as u32);
+    let image = Image {
+        header: h,
+        nibbles: bytes,
+        words,
+        many,
+    };
+    let v = image.sweep(false);
+    if let Some(fault) = v.walk.fault {
+        return Err(refusal(fault, v.walk.at as u32));
     }
     if v.walk.entries != h.aux_count as usize {
-        return Answer::AuxCount;
+        return Err(Refusal::AuxCount);
     }
-    if v.walk.even {
-        if fulls == h.aux_count {
-            return Answer::Ok;
-        }
+    if v.walk.even && fulls == h.aux_count {
+        return Ok(());
     }
-    let u = sweep(h, true, bytes, words, many);
-    if u.slot < size_of(h.lg_k) {
-        return Answer::AuxMatch(u.slot);
+    match image.sweep(true).slot {
+        Some(slot) => Err(Refusal::AuxMatch(slot)),
+        None => Ok(()),
     }
-    Answer::Ok
 }

@@ -2,28 +2,32 @@
 use mathlib.Core.Path.{◌≡◌, ap}
 use mathlib.Core.Bool.{Bool, true, false}
 use mathlib.Core.List.{List, [], ◌∷◌}
-use Prim.Native.Nat.{ℕ, zero, suc, ◌^◌, ◌≤◌, ◌<◌}
+use Prim.Native.Nat.{ℕ, ◌^◌, ◌≤◌, ◌<◌}
 use native.Mathlib.Omega.{arith}
 use lib.Dec.{eqb, leb}
 use lib.ListN.{length, get_or}
 use lib.Pow.{pow_mono}
 use borrow.Author.Tests.{leb-true}
+use Rattle.std.specs.List.{starts_with}
+use Rattle.std.proofs.lemmas.Slice.Eq.{starts_is}
+use Rattle.std.proofs.lemmas.Bool.Decides.{Decides-eqb}
 use Rattle.model.specs.Pick.{pick, Tells}
 use Rattle.model.specs.Image.{sketch_in, compact_in, word_count, lg_arr_fits}
-use Rattle.model.proofs.order.Tells.{tells_as}
+use Rattle.model.proofs.table.FirstLaws.{true_not_false}
 use Rattle.model.proofs.image.Opens.{header_says}
-use Rattle.image_header.specs.Header.{Starts, header_in, record_in, lg_arr_in, words_in, Headed}
+use Rattle.image_header.specs.Header.{header_in, record_in, lg_arr_in, words_in, Headed}
 use Rattle.image_header.specs.declared.Header.{Header}
 
 -- the first three bytes, as a byte string that stands there
-pub begins_tells : (l : List ℕ) (b : Bool) → Tells b (Starts l (10 ∷ 1 ∷ 7 ∷ [])) → Tells b ((get_or l 0 0 ≡ 10) × ((get_or l 1 0 ≡ 1) × (get_or l 2 0 ≡ 7)))
-begins_tells l b t = tells_as b (λ f. (f 0 (omega arith), (f 1 (omega arith), f 2 (omega arith)))) from t
-  where
-    from : (get_or l 0 0 ≡ 10) × ((get_or l 1 0 ≡ 1) × (get_or l 2 0 ≡ 7)) → Starts l (10 ∷ 1 ∷ 7 ∷ [])
-    from e zero h = e.0
-    from e (suc zero) h = e.1.0
-    from e (suc (suc zero)) h = e.1.1
-    from e (suc (suc (suc i))) h = absurd (omega arith)
+pub begins_tells : (l : List ℕ) (b : Bool) → 40 ≤ length l → b ≡ starts_with eqb l (10 ∷ 1 ∷ 7 ∷ []) → Tells b ((get_or l 0 0 ≡ 10) × ((get_or l 1 0 ≡ 1) × (get_or l 2 0 ≡ 7)))
+begins_tells [] b h e = absurd (omega arith)
+begins_tells (x ∷ []) b h e = absurd (omega arith)
+begins_tells (x ∷ y ∷ []) b h e = absurd (omega arith)
+begins_tells (x ∷ y ∷ z ∷ r) b h e =
+    let says = starts_is Decides-eqb (x ∷ y ∷ z ∷ r) (10 ∷ 1 ∷ 7 ∷ []) b e in (
+      λ t. let q = says.0 t in (ap (λ (s : List ℕ). get_or s 0 0) q, (ap (λ (s : List ℕ). get_or s 1 0) q, ap (λ (s : List ℕ). get_or s 2 0) q)),
+      λ f k. true_not_false (says.1 r (λ i. k.0 i ∷ k.1.0 i ∷ k.1.1 i ∷ r)) f,
+    )
 
 pub record_of : (l : List ℕ) (h : Header) → h ≡ header_in l → record_in h ≡ sketch_in l
 unfolding header_in

@@ -1,14 +1,10 @@
 -- What the code's header says of an image: the book's fields, in one record, and what is worked out from them.
-use Rattle.std.specs.Prelude.{◌≡◌, Bool, true, List, ℕ, ◌^◌, ◌<◌, eqb, leb, length, get_or}
+use Rattle.std.specs.Prelude.{◌≡◌, Bool, true, List, ℕ, ◌^◌, eqb, leb, get_or}
 use Rattle.model.specs.Pick.{pick}
 use Rattle.model.specs.Sketch.{sketch_of}
 use Rattle.model.specs.Image.{sketch_in, compact_in, header_no}
 use Rattle.model.specs.declared.Sketch.{Sketch}
 use Rattle.image_header.specs.declared.Header.{Header}
-
--- the list p is how l begins
-abbrev pub Starts : List ℕ → List ℕ → Type 0
-Starts l p = (i : ℕ) → i < length p → get_or l i 0 ≡ get_or p i 0
 
 -- the header of any list of bytes
 unfoldable pub header_in : List ℕ → Header

@@ -1,13 +1,12 @@
 // The header of an image: whether there is one, and what it says, decoded once and then handed on.
 #![tactic(auto)]
 
-ghost use Rattle.std.specs.Prelude.{◌≡◌, true, ◌≤◌, length};
-ghost use Rattle.model.specs.Pick.{Tells};
+ghost use Rattle.std.specs.Prelude.{◌≡◌, true, ◌≤◌, length, IfOk};
 ghost use Rattle.model.specs.Answers.{number_of};
 ghost use Rattle.model.specs.Image.{kind_of, header_no};
-ghost use Rattle.image_header.specs.Header.{Starts, header_in, record_in, lg_arr_in, words_in};
+ghost use Rattle.image_header.specs.Header.{header_in, record_in, lg_arr_in, words_in, Headed};
 
-use model::{Answer, Sketch};
+use model::{Refusal, Sketch};
 use shape::{
     AUX_COUNT_BYTE, CUR_MIN_BYTE, FLAGS_BYTE, LG_ARR_BYTE, LG_K_BYTE, MODE_BYTE,
     NUM_AT_CUR_MIN_BYTE, REGISTERS_BYTE,
@@ -25,49 +24,38 @@ pub struct Header {
     pub aux_count: u32,
 }
 
-// Whether the bytes of p are how s begins.
-fn starts(s: &[u8], p: &[u8]) -> bool
-    requires { length p.now ≤ length s.now }
-    ensures { Tells result (Starts s.now p.now) }
-{
-    let mut i = 0;
-    while i < p.len() {
-        if s[i] != p[i] {
-            return false;
-        }
-        i += 1;
-    }
-    true
+// The bytes of an image that begins as every image does, and its header: whoever is handed one decodes nothing again.
+#[derive(Clone, Copy)]
+pub struct Image<'a> {
+    pub bytes: &'a [u8],
+    pub header: Header,
+    ghost headed: { Headed bytes.now header },
 }
 
 // SHORT of the header, HEADER.
-pub fn check(image: &[u8]) -> Answer
+pub fn check(image: &[u8]) -> Result<(), Refusal>
     ensures { number_of result ≡ header_no image.now }
 {
     if image.len() < REGISTERS_BYTE {
-        return Answer::Short;
+        return Err(Refusal::Short);
     }
-    let begun = starts(image, b"\x0A\x01\x07");
-    if !begun {
-        return Answer::Header;
+    if !image.starts_with(b"\x0A\x01\x07") {
+        return Err(Refusal::Header);
     }
-    Answer::Ok
+    Ok(())
 }
 
-// The kind that a mode byte says, or 0.
+// The kind that a mode byte says, or 0. A number, since `header_in` takes every byte, and `image_check::form` promises an answer for every kind.
+#[tactic(auto, unfolding(model::specs::Image::kind_of))]
 fn kind_of(mode: u8) -> u8
     ensures { result ≡ kind_of mode }
 {
-    if mode == 10 {
-        return 8;
+    match mode {
+        10 => 8,
+        6 => 6,
+        2 => 4,
+        _ => 0,
     }
-    if mode == 6 {
-        return 6;
-    }
-    if mode == 2 {
-        return 4;
-    }
-    0
 }
 
 pub fn header_in(image: &[u8]) -> Header
@@ -85,42 +73,50 @@ pub fn header_in(image: &[u8]) -> Header
     }
 }
 
+// The header's own refusals, and then the bytes with what it says of them.
+pub fn read(bytes: &[u8]) -> Result<Image<'_>, Refusal>
+    ensures answer { number_of result ≡ header_no bytes.now }
+    ensures ok { IfOk result (λ image. image.bytes.now ≡ bytes.now) }
+{
+    check(bytes)?;
+    let header = header_in(bytes);
+    Ok(Image { bytes, header })
+}
+
 // The record of the sketch that the image is of.
-pub fn sketch_of(h: Header) -> Sketch
-    ensures { result ≡ record_in h }
-{
-    Sketch {
-        kind: h.kind,
-        lg_k: h.lg_k,
-        cur_min: h.cur_min,
-        num_at_cur_min: h.num_at_cur_min,
-        aux_count: h.aux_count,
+impl From<Header> for Sketch {
+    fn from(h: Header) -> Sketch
+        ensures { result ≡ record_in h }
+    {
+        Sketch {
+            kind: h.kind,
+            lg_k: h.lg_k,
+            cur_min: h.cur_min,
+            num_at_cur_min: h.num_at_cur_min,
+            aux_count: h.aux_count,
+        }
     }
 }
 
-// lg_arr is looked at in the second form alone, where it has words.
-pub fn lg_arr_fits(h: Header) -> bool
-    ensures { result ≡ lg_arr_in h }
-{
-    if h.compact {
-        return true;
+impl Header {
+    // lg_arr is looked at in the second form alone, where it has words.
+    pub fn lg_arr_fits(self) -> bool
+        ensures { result ≡ lg_arr_in self }
+    {
+        self.compact || self.aux_count == 0 || self.lg_arr <= 22
     }
-    if h.aux_count == 0 {
-        return true;
-    }
-    h.lg_arr <= 22
-}
 
-// How many exception words the image has. A lg_arr that is too large has been refused, so the shift is one.
-pub fn word_count(h: Header) -> usize
-    requires { lg_arr_in h ≡ true }
-    ensures { result ≡ words_in h }
-{
-    if h.compact {
-        return h.aux_count as usize;
+    // How many exception words the image has. A lg_arr that is too large has been refused, so the shift is one.
+    pub fn word_count(self) -> usize
+        requires { lg_arr_in self ≡ true }
+        ensures { result ≡ words_in self }
+    {
+        if self.compact {
+            return self.aux_count as usize;
+        }
+        if self.aux_count == 0 {
+            return 0;
+        }
+        1 << self.lg_arr
     }
-    if h.aux_count == 0 {
-        return 0;
-    }
-    1usize << h.lg_arr
 }

@@ -3,19 +3,21 @@
 #![tactic(auto)]
 
 ghost use Rattle.std.specs.Prelude.{◌≡◌, ◌*◌, ◌≤◌, eqb, length, get_or};
-ghost use Rattle.model.specs.Pick.{both, first};
+ghost use Rattle.std.specs.List.{position, range_with_len};
+ghost use Rattle.model.specs.Pick.{both};
 ghost use Rattle.model.specs.Answers.{said, said_of};
-ghost use Rattle.model.specs.Packed.{unpacked};
+ghost use Rattle.model.specs.Packed.{slot_at};
 ghost use Rattle.model.specs.Lists.{layout_of, preamble_no, coupons_no, empty_place};
 ghost use Rattle.image_list.specs.Read.{layout_as, coupons_at, Read};
 
-use model::Answer;
+use model::Refusal;
 use shape::{FLAGS_BYTE, LG_K_BYTE, MAGIC_BYTE, MODE_BYTE};
 
 // The bytes that a list and a set begin with.
 const LEAST: usize = 8;
 
 // How an image is laid out: what its first byte says, the low two bits of its mode, where its count stands and in how many bits, where its words begin.
+// All numbers, and no enum of list and set: so the book has it, and `layout_as` holds the two against each other field by field.
 #[derive(Clone, Copy)]
 struct Layout {
     preamble: u8,
@@ -25,26 +27,27 @@ struct Layout {
     words: usize,
 }
 
+const LIST: Layout = Layout {
+    preamble: 2,
+    mode: 0,
+    count: 6,
+    bits: 8,
+    words: 8,
+};
+
+const SET: Layout = Layout {
+    preamble: 3,
+    mode: 1,
+    count: 8,
+    bits: 32,
+    words: 12,
+};
+
 // A set's for a first byte of 3, else a list's.
 fn layout_of(first: u8) -> Layout
     ensures { result ≡ layout_as (layout_of first) }
 {
-    if first == 3 {
-        return Layout {
-            preamble: 3,
-            mode: 1,
-            count: 8,
-            bits: 32,
-            words: 12,
-        };
-    }
-    Layout {
-        preamble: 2,
-        mode: 0,
-        count: 6,
-        bits: 8,
-        words: 8,
-    }
+    if first == 3 { SET } else { LIST }
 }
 
 // The first three bytes: as the layout asks, the version, the family.
@@ -52,41 +55,33 @@ fn begins(image: &[u8], preamble: u8) -> bool
     requires { 8 ≤ length image.now }
     ensures { result ≡ both (eqb (get_or image.now 0 0) preamble) (both (eqb (get_or image.now 1 0) 1) (eqb (get_or image.now 2 0) 7)) }
 {
-    if image[MAGIC_BYTE] != preamble {
-        return false;
-    }
-    if image[MAGIC_BYTE + 1] != 1 {
-        return false;
-    }
-    image[MAGIC_BYTE + 2] == 7
+    image[MAGIC_BYTE] == preamble && image[MAGIC_BYTE + 1] == 1 && image[MAGIC_BYTE + 2] == 7
 }
 
 // SHORT, HEADER, SHORT of a set, MODE, LGK, FORM.
-pub fn preamble(image: &[u8]) -> Answer
+pub fn preamble(image: &[u8]) -> Result<(), Refusal>
     ensures { said_of result ≡ said (preamble_no image.now) 0 }
 {
     if image.len() < LEAST {
-        return Answer::Short;
+        return Err(Refusal::Short);
     }
     let y = layout_of(image[MAGIC_BYTE]);
-    let begun = begins(image, y.preamble);
-    if !begun {
-        return Answer::Header;
+    if !begins(image, y.preamble) {
+        return Err(Refusal::Header);
     }
     if image.len() < y.words {
-        return Answer::Short;
+        return Err(Refusal::Short);
     }
     if image[MODE_BYTE] % 4 != y.mode {
-        return Answer::Mode;
+        return Err(Refusal::Mode);
     }
-    let sized = shape::is_lg_k(image[LG_K_BYTE]);
-    if !sized {
-        return Answer::LgK;
+    if !shape::is_lg_k(image[LG_K_BYTE]) {
+        return Err(Refusal::LgK);
     }
     if image[FLAGS_BYTE] / 8 % 2 != 1 {
-        return Answer::Form;
+        return Err(Refusal::Form);
     }
-    Answer::Ok
+    Ok(())
 }
 
 // Where the words begin, and how many there are said to be.
@@ -105,7 +100,7 @@ pub fn coupons_in(image: &[u8]) -> Coupons
     if y.bits == 8 {
         return Coupons {
             words: y.words,
-            count: image[at] as usize,
+            count: usize::from(image[at]),
         };
     }
     let count = packed::words::word_at(&image[at..], 0);
@@ -115,37 +110,29 @@ pub fn coupons_in(image: &[u8]) -> Coupons
     }
 }
 
-// The position of the first word that is zero, or how many there are.
-fn first_empty(words: &[u8], many: usize) -> usize
+// The position of the first word that is zero.
+fn first_empty(words: &[u8], many: usize) -> Option<usize>
     requires { 4 * many ≤ length words.now }
-    ensures { result ≡ first (λ i. eqb (get_or (unpacked 32 many words.now) i 0) 0) many }
+    ensures { result ≡ position (λ i. eqb (slot_at 32 words.now i) 0) (range_with_len 0 many) }
 {
-    let mut i = 0;
-    while i < many {
-        if packed::words::word_at(words, i) == 0 {
-            return i;
-        }
-        i += 1;
-    }
-    i
+    (0..many).position(|i| packed::words::word_at(words, i) == 0)
 }
 
 // SHORT of the words, LISTEMPTY, FINER. A count of 32 bits times four can't wrap.
-pub fn check(image: &[u8], c: Coupons, lg_k: u8) -> Answer
+pub fn check(image: &[u8], c: Coupons, lg_k: u8) -> Result<(), Refusal>
     requires { Read image.now c }
     ensures { said_of result ≡ said (coupons_no lg_k image.now) (empty_place image.now (coupons_no lg_k image.now)) }
 {
     let from = c.words;
     let many = c.count;
     if image.len() < from + 4 * many {
-        return Answer::Short;
+        return Err(Refusal::Short);
     }
-    let empty = first_empty(&image[from..], many);
-    if empty != many {
-        return Answer::ListEmpty(empty as u32);
+    if let Some(empty) = first_empty(&image[from..], many) {
+        return Err(Refusal::ListEmpty(empty as u32));
     }
     if image[LG_K_BYTE] < lg_k {
-        return Answer::Finer;
+        return Err(Refusal::Finer);
     }
-    Answer::Ok
+    Ok(())
 }

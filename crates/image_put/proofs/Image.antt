@@ -16,10 +16,11 @@ use Rattle.model.proofs.table.Sifted.{sifted_none, filled_front}
 use Rattle.model.specs.Sketch.{table_in, registers, Good}
 use Rattle.model.specs.Image.{image_in}
 use Rattle.model.specs.declared.Sketch.{Sketch}
+use Rattle.model.specs.declared.Checked.{Checked}
 use Rattle.model.proofs.order.Tells.{tells_true}
 use Rattle.model.proofs.order.Tests.{Passes, TableFits, good_asks, counts_tells, table_tells}
 use Rattle.model.proofs.order.Lawful.{lawful}
-use Rattle.model.proofs.calls.Has.{good_bytes}
+use Rattle.model.proofs.calls.Has.{good_bytes, checked_good}
 use Rattle.model.proofs.image.Listing.{listing, listing_listed}
 use Rattle.model.proofs.image.Writing.{good_small, image_parts, image_long}
 use Rattle.sums.proofs.Dyadic.{ratio_no_nan}
@@ -72,9 +73,21 @@ module _ (s : Sketch) (regs aux : List ℕ) (g : Good s regs aux) where
   image_counted = omega (arith, image_long s regs aux g, g.shaped.long, counted.0)
 
 -- ---- what is asked, and the three puts of the code
-module _ {s : Sketch} {x y : Float} {regs aux d : List ℕ} (w : Writable s x y regs aux d) where
+module _ {h : Checked} {x y : Float} {d : List ℕ} (w : Writable h x y d) where
+  abbrev s : Sketch
+  s = h.sketch
+
+  abbrev regs : List ℕ
+  regs = h.regs.now
+
+  abbrev aux : List ℕ
+  aux = h.aux.now
+
+  good : Good s regs aux
+  good = checked_good h
+
   pub image_room : 40 + length regs + 4 * s.aux_count ≤ length d
-  image_room = omega (arith, image_counted s regs aux w.good, w.room)
+  image_room = omega (arith, image_counted s regs aux good, w.room)
 
   pub header_fits : HeaderFits x y d
   header_fits = record { low = rw w.low (ratio_no_nan 31 _); high = rw w.high (ratio_no_nan 63 _); room = omega (arith, image_room) }
@@ -83,11 +96,11 @@ module _ {s : Sketch} {x y : Float} {regs aux d : List ℕ} (w : Writable s x y 
   pub image_put : {a b c : List ℕ} → a ≡ over d 0 (header_bytes s x y) → b ≡ over a 40 regs → c ≡ over b (40 + length regs) (word_bytes s.aux_count aux)
       → c ≡ image_in s regs aux ++ drop (length (image_in s regs aux)) d
   image_put p q r =
-      let h = header_bytes s x y in
+      let front = header_bytes s x y in
       let ws = word_bytes s.aux_count aux in
       let long = heading_long s x y in
-      let is : image_in s regs aux ≡ (h ++ regs) ++ ws =
-      image_is s regs aux w.good ∙ ap₂ (λ (u v : Float). header_bytes s u v ++ (regs ++ ws)) (sym w.low) (sym w.high) ∙ sym (append_assoc h regs ws) in
-      next d 0 (40 + length regs) (h ++ regs) ws refl refl (next d 0 40 h regs refl refl p q (omega arith) (omega (arith, image_room))) r
-      (omega (arith, length-append h regs)) (omega (arith, length_words s.aux_count aux, image_room))
+      let is : image_in s regs aux ≡ (front ++ regs) ++ ws =
+      image_is s regs aux good ∙ ap₂ (λ (u v : Float). header_bytes s u v ++ (regs ++ ws)) (sym w.low) (sym w.high) ∙ sym (append_assoc front regs ws) in
+      next d 0 (40 + length regs) (front ++ regs) ws refl refl (next d 0 40 front regs refl refl p q (omega arith) (omega (arith, image_room))) r
+      (omega (arith, length-append front regs)) (omega (arith, length_words s.aux_count aux, image_room))
       ∙ ap (over d 0) (sym is) ∙ over_front d (image_in s regs aux)

@@ -3,9 +3,9 @@ use Rattle.std.specs.Prelude.{◌≡◌, not, List, ℕ, ◌+◌, ◌*◌, ◌�
 use Rattle.std.specs.Float.Ieee.{is_nan}
 use Rattle.model.specs.Table.{filled}
 use Rattle.model.specs.Image.{image_in}
-use Rattle.model.specs.Sketch.{registers, Good}
+use Rattle.model.specs.Sketch.{registers}
 use Rattle.model.specs.Sums.{kxq0, kxq1}
-use Rattle.model.specs.declared.Sketch.{Sketch}
+use Rattle.model.specs.declared.Checked.{Checked}
 
 -- a buffer with room for the header, and two doubles that have bytes
 pub record HeaderFits (x y : Float) (out : List ℕ) : Type 0 where
@@ -18,9 +18,8 @@ pub record WordsFit (words : List ℕ) (n : ℕ) (out : List ℕ) (at : ℕ) : T
   pub enough : n ≤ length (filled words)
   pub room : at + 4 * n ≤ length out
 
--- a sketch in good order, its two sums, and a buffer no shorter than its image
-pub record Writable (s : Sketch) (x y : Float) (regs aux out : List ℕ) : Type 0 where
-  pub good : Good s regs aux
-  pub low : x ≡ kxq0 (registers s regs aux)
-  pub high : y ≡ kxq1 (registers s regs aux)
-  pub room : length (image_in s regs aux) ≤ length out
+-- a checked sketch, its two sums, and a buffer no shorter than its image
+pub record Writable (h : Checked) (x y : Float) (out : List ℕ) : Type 0 where
+  pub low : x ≡ kxq0 (registers h.sketch h.regs.now h.aux.now)
+  pub high : y ≡ kxq1 (registers h.sketch h.regs.now h.aux.now)
+  pub room : length (image_in h.sketch h.regs.now h.aux.now) ≤ length out

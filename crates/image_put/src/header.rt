@@ -4,31 +4,27 @@ ghost use Rattle.model.specs.Image.{mode_of, flags_of};
 ghost use Rattle.image_put.specs.Parts.{over, field_bytes, sum_bytes, count_bytes, header_bytes};
 ghost use Rattle.image_put.specs.Write.{HeaderFits};
 
-use super::parts::put;
 use model::Sketch;
+use packed::eight::put;
 use packed::words::u32_bytes;
-use sums::f64_bytes;
+use sums::{Sums, f64_bytes};
 
+// Of the record's kind, which is a number; the mode and the flags are bytes of the image.
 fn mode_of(kind: u8) -> u8
     ensures { result ≡ mode_of kind }
 {
-    if kind == 8 {
-        return 10;
+    match kind {
+        8 => 10,
+        6 => 6,
+        _ => 2,
     }
-    if kind == 6 {
-        return 6;
-    }
-    2
 }
 
 // Out of order, since no HIP sum is kept; and compact for kind 4, which lists its exceptions alone.
 fn flags_of(kind: u8) -> u8
     ensures { result ≡ flags_of kind }
 {
-    if kind == 4 {
-        return 24;
-    }
-    16
+    if kind == 4 { 24 } else { 16 }
 }
 
 fn put_fields(s: Sketch, out: &mut [u8])
@@ -41,12 +37,12 @@ fn put_fields(s: Sketch, out: &mut [u8])
     put(out, shape::HIP_BYTE, b"\0\0\0\0\0\0\0\0");
 }
 
-fn put_sums(kxq0: f64, kxq1: f64, out: &mut [u8])
-    requires { HeaderFits kxq0 kxq1 out.old }
-    ensures { out.new ≡ over out.old 16 (sum_bytes kxq0 kxq1) }
+fn put_sums(sums: Sums, out: &mut [u8])
+    requires { HeaderFits sums.kxq0 sums.kxq1 out.old }
+    ensures { out.new ≡ over out.old 16 (sum_bytes sums.kxq0 sums.kxq1) }
 {
-    let low = f64_bytes(kxq0);
-    let high = f64_bytes(kxq1);
+    let low = f64_bytes(sums.kxq0);
+    let high = f64_bytes(sums.kxq1);
     put(out, shape::KXQ0_BYTE, &low);
     put(out, shape::KXQ1_BYTE, &high);
 }
@@ -61,11 +57,11 @@ fn put_counts(s: Sketch, out: &mut [u8])
     put(out, shape::AUX_COUNT_BYTE, &count);
 }
 
-pub fn put_header(s: Sketch, kxq0: f64, kxq1: f64, out: &mut [u8])
-    requires { HeaderFits kxq0 kxq1 out.old }
-    ensures { out.new ≡ over out.old 0 (header_bytes s kxq0 kxq1) }
+pub fn put_header(s: Sketch, sums: Sums, out: &mut [u8])
+    requires { HeaderFits sums.kxq0 sums.kxq1 out.old }
+    ensures { out.new ≡ over out.old 0 (header_bytes s sums.kxq0 sums.kxq1) }
 {
     put_fields(s, out);
-    put_sums(kxq0, kxq1, out);
+    put_sums(sums, out);
     put_counts(s, out);
 }

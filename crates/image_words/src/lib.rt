@@ -19,12 +19,9 @@ pub fn collect(lg_k: u8, words: &[u8], many: usize, into: &mut [u32]) -> usize
     ensures { Collected lg_k words.now many into.new result }
 {
     let mut top = into.len();
-    let mut j = many;
-    while 0 < j {
-        j -= 1;
+    for j in (0..many).rev() {
         let w = packed::words::word_at(words, j);
-        let none = coupon::is_empty(w);
-        if !none {
+        if !coupon::is_empty(w) {
             top -= 1;
             into[top] = take(lg_k, w);
         }

@@ -11,7 +11,7 @@ use borrow.Author.Tests.{eqb-true, ne_eqb}
 use Rattle.model.specs.Pick.{pick}
 use Rattle.model.proofs.order.Tells.{tells_true}
 use Rattle.text.specs.Text.{text}
-use Rattle.job.specs.Job.{Job, no_job, size_line, in_lines, size_in, path_in, ins_in, job_of, places_of}
+use Rattle.job.specs.Job.{Job, no_job, size_line, in_lines, size_in, path_in, ins_in, job_of, places_of, PathIn}
 use Rattle.job.specs.declared.Places.{Places}
 use Rattle.job.proofs.Lines.{path_room}
 use Rattle.job.proofs.Texts.{tests, tests_tell, ins_of, last_of, out_of, read_of, size_line_lem, ins_text}
@@ -20,36 +20,32 @@ use Rattle.job.proofs.Texts.{tests, tests_tell, ins_of, last_of, out_of, read_of
 abbrev Asked : List ℕ → Type 0
 Asked l = (length l ≤ 4096) × ((0 < size_in l) × ((0 < length (ins_of l)) × ((0 < out_of l) × (length (last_of l) ≡ out_of l + 5))))
 
-no_job_lem : (l : List ℕ) → (Asked l → ⊥) → places_of no_job ≡ places_of (job_of l)
+no_job_lem : (l : List ℕ) → (Asked l → ⊥) → (job_of l).lgk ≡ 0
 unfolding job_of
 no_job_lem l h = go (tests l (size_in l) (ins_of l) (last_of l) (out_of l)) (tests_tell l (size_in l) (ins_of l) (last_of l) (out_of l)).0
   where
-    go : (b : Bool) → (b ≡ true → Asked l) → places_of no_job ≡ places_of (pick b (read_of l) no_job)
+    go : (b : Bool) → (b ≡ true → Asked l) → (pick b (read_of l) no_job).lgk ≡ 0
     go true f = absurd (h (f refl))
     go false f = refl
 
-pub too_long : (l : List ℕ) → 4096 < length l → places_of no_job ≡ places_of (job_of l)
+pub too_long : (l : List ℕ) → 4096 < length l → (job_of l).lgk ≡ 0
 too_long l h = no_job_lem l (λ a. omega arith)
 
-pub no_size : (l : List ℕ) → 0 ≡ size_in l → places_of no_job ≡ places_of (job_of l)
+pub no_size : (l : List ℕ) → size_in l ≡ 0 → (job_of l).lgk ≡ 0
 no_size l h = no_job_lem l (λ a. omega arith)
 
 -- where the size stands, and the `in=` lines
 pub record Listing (l : List ℕ) (lgk first files last : ℕ) : Type 0 where
-  pub size : lgk ≡ size_in l
-  pub some : lgk ≡ 0 → ⊥
+  pub size : (lgk ≡ size_in l) × (4 ≤ lgk) × (lgk ≤ 12)
   pub starts : first ≡ length (size_line lgk)
   pub listed : (files ≡ length (ins_in 64 (drop first l))) × (last ≡ first + length (in_lines (ins_in 64 (drop first l))))
 
-module _ (l : List ℕ) {lgk : ℕ} (size : lgk ≡ size_in l) (some : lgk ≡ 0 → ⊥) where
+module _ (l : List ℕ) {lgk : ℕ} (size : (lgk ≡ size_in l) × (4 ≤ lgk) × (lgk ≤ 12)) where
   positive : 0 < size_in l
   positive = omega arith
 
-  pub size_fits : (4 ≤ lgk) × (lgk ≤ 12)
-  size_fits = let s = size_line_lem l positive in (omega arith, omega arith)
-
   same_start : {first : ℕ} → first ≡ length (size_line lgk) → first ≡ length (size_line (size_in l))
-  same_start starts = starts ∙ ap (λ (n : ℕ). length (size_line n)) size
+  same_start starts = starts ∙ ap (λ (n : ℕ). length (size_line n)) size.0
 
   pub first_room : {first : ℕ} → first ≡ length (size_line lgk) → first ≤ length l
   first_room starts =
@@ -58,7 +54,7 @@ module _ (l : List ℕ) {lgk : ℕ} (size : lgk ≡ size_in l) (some : lgk ≡ 0
 
 module _ {l : List ℕ} {lgk first files last : ℕ} (p : Listing l lgk first files last) where
   same_first : first ≡ length (size_line (size_in l))
-  same_first = same_start l p.size p.some p.starts
+  same_first = same_start l p.size p.starts
 
   same_ins : ins_in 64 (drop first l) ≡ ins_of l
   same_ins = ap (λ (n : ℕ). ins_in 64 (drop n l)) same_first
@@ -66,7 +62,7 @@ module _ {l : List ℕ} {lgk first files last : ℕ} (p : Listing l lgk first fi
   same_files : files ≡ length (ins_of l)
   same_files = p.listed.0 ∙ ap length same_ins
 
-  pub no_ins : files ≡ 0 → places_of no_job ≡ places_of (job_of l)
+  pub no_ins : files ≡ 0 → (job_of l).lgk ≡ 0
   no_ins h = let e = same_files in no_job_lem l (λ a. omega arith)
 
   same_last : drop last l ≡ last_of l
@@ -81,19 +77,21 @@ module _ {l : List ℕ} {lgk first files last : ℕ} (p : Listing l lgk first fi
       let r = ap length (ins_text 64 (drop first l)).lines_are in
       let e = length-append (in_lines (ins_in 64 (drop first l))) (drop (length (in_lines (ins_in 64 (drop first l)))) (drop first l)) in
       let d = length-drop first l in
-      let f = first_room l p.size p.some p.starts in
+      let f = first_room l p.size p.starts in
       let q = p.listed.1 in
       omega arith
 
-  module _ {n : ℕ} (path : n ≡ path_in (text "out=") (drop last l)) where
-    same_path : n ≡ out_of l
-    same_path = path ∙ ap (λ (t : List ℕ). path_in (text "out=") t) same_last
+  pub no_out : path_in (text "out=") (drop last l) ≡ 0 → (job_of l).lgk ≡ 0
+  no_out h = let e = ap (λ (t : List ℕ). path_in (text "out=") t) same_last in no_job_lem l (λ a. omega arith)
 
-    pub no_out : n ≡ 0 → places_of no_job ≡ places_of (job_of l)
-    no_out h = let e = same_path in no_job_lem l (λ a. omega arith)
+  module _ {path : List ℕ} (is : PathIn (text "out=") (drop last l) path) where
+    same_path : length path ≡ out_of l
+    same_path = is.long ∙ ap (λ (t : List ℕ). path_in (text "out=") t) same_last
 
-    pub path_fits : (n ≡ 0 → ⊥) → n + 5 ≤ length l
-    path_fits h =
+    pub path_fits : length path + 5 ≤ length l
+    path_fits =
+        let e = is.long in
+        let s = is.some in
         let r = path_room (text "out=") (drop last l) (omega arith) in
         let d = length-drop last l in
         omega arith
@@ -101,18 +99,19 @@ module _ {l : List ℕ} {lgk first files last : ℕ} (p : Listing l lgk first fi
     same_length : length l - last ≡ length (last_of l)
     same_length = sym (length-drop last l) ∙ ap length same_last
 
-    pub more_behind : (length l - last ≡ n + 5 → ⊥) → places_of no_job ≡ places_of (job_of l)
+    pub more_behind : (length l - last ≡ length path + 5 → ⊥) → (job_of l).lgk ≡ 0
     more_behind h = let e = same_path in let s = same_length in no_job_lem l (λ a. h (omega arith))
 
-    pub found : length l ≤ 4096 → (files ≡ 0 → ⊥) → (n ≡ 0 → ⊥) → length l - last ≡ n + 5 → record { lg_k = lgk; files = files; first = first; last = last } ≡ places_of (job_of l)
+    pub found : length l ≤ 4096 → (files ≡ 0 → ⊥) → length l - last ≡ length path + 5 → record { lg_k = lgk; files = files; first = first; last = last } ≡ places_of (job_of l)
     unfolding job_of places_of
-    found a b c d =
+    found a b d =
         let e = same_path in
+        let n = is.some in
         let s = same_length in
         let f = same_files in
-        let size = p.size in
-        let ok = tells_true _ (tests_tell l (size_in l) (ins_of l) (last_of l) (out_of l)) (a, (positive l size p.some, (omega arith, (omega arith, omega arith)))) in
-        let z = ne_eqb (size_in l) 0 (λ e. p.some (size ∙ e)) in
+        let size = p.size.0 in
+        let ok = tells_true _ (tests_tell l (size_in l) (ins_of l) (last_of l) (out_of l)) (a, (positive l p.size, (omega arith, (omega arith, omega arith)))) in
+        let z = ne_eqb (size_in l) 0 (λ e. let h = p.size.1 in omega arith) in
         let q = same_first in
         let r : last ≡ first + length (in_lines (ins_of l)) = p.listed.1 ∙ ap (λ (ps : List (List ℕ)). first + length (in_lines ps)) same_ins in
         let places : ℕ → ℕ → ℕ → ℕ → Places = λ a b c d. record { lg_k = a; files = b; first = c; last = d } in

@@ -82,17 +82,20 @@ module _ (l : List ℕ) where
   asks : ℕ → Bool
   asks m = stands_at (size_line (4 + m)) l
 
-  pub size_found : (m : ℕ) → m < 9 → stands_at (size_line (4 + m)) l ≡ true → ((i : ℕ) → i < m → stands_at (size_line (4 + i)) l ≡ false) → 4 + m ≡ size_in l
+  pub size_found : (n : ℕ) → 4 ≤ n → n ≤ 12 → stands_at (size_line n) l ≡ true → ((i : ℕ) → 4 + i < n → stands_at (size_line (4 + i)) l ≡ false) → n ≡ size_in l
   unfolding size_in asks
-  size_found m h t f = let e = first_is asks 9 m h t f in sym (simp (e, lt-ltb _ _ h))
+  size_found n a b t f =
+      let q : 4 + (n - 4) ≡ n = omega arith in
+      let e = first_is asks 9 (n - 4) (omega arith) (rw q t) (λ i h. f i (omega arith)) in
+      sym (simp (e, lt-ltb (n - 4) 9 (omega arith)) q)
 
-  pub size_missing : ((i : ℕ) → i < 9 → stands_at (size_line (4 + i)) l ≡ false) → 0 ≡ size_in l
+  pub size_missing : ((i : ℕ) → 4 + i < 13 → stands_at (size_line (4 + i)) l ≡ false) → size_in l ≡ 0
   unfolding size_in asks
   size_missing f = go (dec_lt (first asks 9) 9)
     where
-      go : Dec (first asks 9 < 9) → 0 ≡ size_in l
-      go (yes k) = absurd (true_not_false (first_holds asks 9 k) (f _ k))
-      go (no k) = sym (simp (le-ltb (first asks 9) 9 (omega arith)))
+      go : Dec (first asks 9 < 9) → size_in l ≡ 0
+      go (yes k) = absurd (true_not_false (first_holds asks 9 k) (f _ (omega arith)))
+      go (no k) = simp (le-ltb (first asks 9) 9 (omega arith))
 
 -- how long it is
 size_long_from : (m : ℕ) → m < 9 → length (size_line (4 + m)) ≡ pick (ltb (4 + m) 10) 6 7
@@ -132,7 +135,7 @@ ins_text (suc f) l = go (eqb (path_in (text "in=") l) 0) refl (ins_text f (drop 
 
 pub text_ins : (ps : List (List ℕ)) (f : ℕ) (r : List ℕ) → Paths ps → length ps ≤ f → path_in (text "in=") r ≡ 0 → ins_in f (in_lines ps ++ r) ≡ ps
 unfolding in_lines
-text_ins [] f r fit few e = ins_end f r (sym e)
+text_ins [] f r fit few e = ins_end f r e
 text_ins (p ∷ ps) zero r fit few e = absurd (not-suc-le-zero few)
 text_ins (p ∷ ps) (suc f) r fit few e =
     let a : in_lines (p ∷ ps) ++ r ≡ line (text "in=") p ++ (in_lines ps ++ r) = append_assoc (line (text "in=") p) (in_lines ps) r in

@@ -1,6 +1,6 @@
 -- The merge program's job: what it says, its text, and the reading of any text. A text is read as a job exactly if it is the text of one
 -- (`job_text`, `text_job`, in proofs/).
-use Rattle.std.specs.Prelude.{Bool, List, [], ◌∷◌, ◌++◌, ℕ, zero, suc, ◌+◌, ◌≤◌, ◌<◌, eqb, leb, ltb, length, get_or, take, drop}
+use Rattle.std.specs.Prelude.{◌≡◌, Bool, List, [], ◌∷◌, ◌++◌, ℕ, zero, suc, ◌+◌, ◌≤◌, ◌<◌, eqb, leb, ltb, length, get_or, take, drop}
 use Rattle.model.specs.Pick.{pick, both, first}
 use Rattle.text.specs.Text.{text, decimal, line, stands_at}
 use Rattle.job.specs.declared.Places.{Places}
@@ -78,6 +78,13 @@ places_of j =
     pick (eqb j.lgk 0)
     (record { lg_k = 0; files = 0; first = 0; last = 0 })
     (record { lg_k = j.lgk; files = length j.ins; first = first; last = first + length (in_lines j.ins) })
+
+-- ---- what the code hands out
+-- these bytes are the path in the line of this key at the front
+pub record PathIn (key l path : List ℕ) : Type 0 where
+  pub some : 0 < length path
+  pub long : length path ≡ path_in key l
+  pub bytes : path ≡ take (path_in key l) (drop (length key) l)
 
 -- ---- what may be said
 -- a path: 1 to 200 bytes, each 33 to 126

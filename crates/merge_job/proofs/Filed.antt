@@ -4,13 +4,15 @@ use mathlib.Core.Bool.{true}
 use mathlib.Core.List.{List}
 use Prim.Native.Nat.{ℕ, ◌≤◌, ◌<◌}
 use native.Mathlib.Omega.{arith}
+use lib.Dec.{leb}
 use lib.ListN.{length}
 use borrow.Author.Tests.{le-leb, lt-leb}
 use Rattle.model.specs.Sketch.{is_kind}
 use Rattle.model.specs.Image.{sketch_in, header_no, form_no}
 use Rattle.model.proofs.order.Tells.{tells_le}
 use Rattle.model.proofs.calls.Ladder.{Says, says_as, says_self, says_pass, says_last, says_next}
-use Rattle.model.proofs.calls.Rungs.{pass, stop, done, through, halt, last}
+use Rattle.model.proofs.calls.Places.{header_low, form_low}
+use Rattle.model.proofs.calls.Rungs.{pass, stop, done, through, halt, last, first_either, pick_either, first_none}
 use Rattle.model.proofs.image.Opens.{form_says}
 use Rattle.merge_job.specs.Merge.{front_no, large_no, file_no}
 
@@ -45,6 +47,18 @@ module _ (l : List ℕ) where
   pub file_large : {n : ℕ} → front_no l ≡ 0 → n ≡ large_no (sketch_in l).kind (sketch_in l).lg_k → n ≡ file_no l
   unfolding file_no
   file_large front e = through _ _ front (last _ e)
+
+-- none of these numbers has a place
+abbrev Low : ℕ → Type 0
+Low n = n < 21
+
+pub file_low : (l : List ℕ) → file_no l < 21
+unfolding file_no front_no large_no
+file_low l =
+    let none = first_none Low (omega arith) in
+    let front = first_either Low _ _ (pick_either Low (leb (length l) 40000) (omega arith) (omega arith)) (first_either Low _ _ (header_low l) none) in
+    let large = first_either Low _ _ (form_low (sketch_in l).kind (sketch_in l).lg_k) (first_either Low _ _ (pick_either Low (leb (sketch_in l).lg_k 12) (omega arith) (omega arith)) none) in
+    first_either Low _ _ front (first_either Low _ _ large none)
 
 -- what is known of an image that is opened
 pub record Fits (l : List ℕ) : Type 0 where

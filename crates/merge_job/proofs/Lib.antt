@@ -5,3 +5,4 @@ pub mod Filed
 pub mod Joining
 pub mod Keeps
 pub mod Turns
+pub mod Faults

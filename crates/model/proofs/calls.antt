@@ -6,6 +6,7 @@ pub mod Starting
 pub mod Has
 pub mod Batches
 pub mod Picked
+pub mod Refusals
 pub mod Refused
 pub mod Standing
 pub mod Doubles

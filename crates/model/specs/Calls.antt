@@ -1,8 +1,8 @@
 -- What each call over a sketch does, for every input: its answer's number and place, what it returns, and what lent memory then holds.
 -- Scratch is left out: it may hold anything.
-use Rattle.std.specs.Prelude.{ℕ, ◌^◌, true, List, [], ◌∷◌, eqb, leb, Float, length, replicate}
+use Rattle.std.specs.Prelude.{◌≡◌, ℕ, ◌^◌, true, List, [], ◌∷◌, eqb, leb, Float, length, replicate, Result, Ok, Err}
 use Rattle.model.specs.Pick.{pick, first_of}
-use Rattle.model.specs.Answers.{number_of, place_of}
+use Rattle.model.specs.Answers.{refusal_no, refusal_place}
 use Rattle.model.specs.Coupon.{value, home}
 use Rattle.model.specs.Registers.{raise, joined}
 use Rattle.model.specs.Table.{base_for}
@@ -12,9 +12,10 @@ use Rattle.model.specs.Sketch.{sketch_of, record_of, stored, area_of, table_in, 
 use Rattle.model.specs.Check.{shape_no, scratch_fits, check_no}
 use Rattle.model.specs.Sums.{kxq0, kxq1}
 use Rattle.model.specs.declared.Sketch.{Sketch}
-use Rattle.model.specs.declared.Answer.{Answer}
-use Rattle.model.specs.declared.Made.{Made}
+use Rattle.model.specs.declared.Checked.{Checked}
+use Rattle.model.specs.declared.Refusal.{Refusal}
 use Rattle.model.specs.declared.Fed.{Fed}
+use Rattle.model.specs.declared.Stopped.{Stopped}
 
 -- all that a call gives back which has a sketch: number, place, record, count, register bytes, exception area
 pub record Out : Type 0 where
@@ -29,13 +30,23 @@ pub record Out : Type 0 where
 abbrev pub out : ℕ → ℕ → Sketch → ℕ → List ℕ → List ℕ → Out
 out n p s k r a = record { no = n; place = p; sketch = s; count = k; regs = r; aux = a }
 
+-- what a call gives that changes a sketch by value, and the memory that it leaves: refused, the record stays the one that came
+abbrev pub kept_or : Sketch → Result Sketch Refusal → List ℕ → List ℕ → Out
+kept_or came (Ok s) regs aux = out 0 0 s 0 regs aux
+kept_or came (Err e) regs aux = out (refusal_no e) (refusal_place e) came 0 regs aux
+
+-- the record of a call that makes a sketch, where it is refused
+abbrev pub nothing : Sketch
+nothing = sketch_of 0 0 0 0 0
+
 -- what a call gives that makes a sketch, and the memory that it leaves
-abbrev pub made_out : Made → List ℕ → List ℕ → Out
-made_out r regs aux = out (number_of r.answer) (place_of r.answer) r.sketch 0 regs aux
+abbrev pub made_out : Result Sketch Refusal → List ℕ → List ℕ → Out
+made_out r regs aux = kept_or nothing r regs aux
 
 -- the same of a batch
-abbrev pub fed_out : Fed → List ℕ → List ℕ → Out
-fed_out r regs aux = out (number_of r.answer) (place_of r.answer) r.sketch r.taken regs aux
+abbrev pub fed_out : Result Fed Stopped → List ℕ → List ℕ → Out
+fed_out (Ok f) regs aux = out 0 0 f.sketch f.taken regs aux
+fed_out (Err s) regs aux = out (refusal_no s.why) (refusal_place s.why) s.fed.sketch s.fed.taken regs aux
 
 -- a refused call: its number and place, and all as it was
 abbrev pub refused_at : ℕ → ℕ → Sketch → List ℕ → List ℕ → Out
@@ -45,17 +56,9 @@ refused_at n p s regs aux = out n p s 0 regs aux
 abbrev pub refused_out : ℕ → Sketch → List ℕ → List ℕ → Out
 refused_out n s regs aux = refused_at n 0 s regs aux
 
--- the record that a refused call gives which makes one
-abbrev pub nothing : Sketch
-nothing = sketch_of 0 0 0 0 0
-
--- and what it gives
-abbrev pub refused_made : Answer → Made
-refused_made a = record { answer = a; sketch = nothing }
-
--- and what one gives which feeds: the record that came, and nothing taken
-abbrev pub refused_fed : Answer → Sketch → Fed
-refused_fed a s = record { answer = a; sketch = s; taken = 0 }
+-- what a call that feeds gives where it is refused: the record that came, and nothing taken
+abbrev pub refused_fed : Refusal → Sketch → Stopped
+refused_fed e s = record { why = e; fed = record { sketch = s; taken = 0 } }
 
 -- a sketch of these registers and this table
 unfoldable pub kept_out : ℕ → ℕ → ℕ → ℕ → State → List ℕ → Out
@@ -86,6 +89,12 @@ unfoldable pub feed_of : Sketch → List ℕ → List ℕ → List ℕ → List 
 feed_of s regs aux scratch coupons =
     let n = check_no (scratch_fits s.kind (length aux) (length scratch)) s regs aux in
     pick (eqb n 0) (batch_of s regs aux coupons) (refused_out n s regs aux)
+
+-- a checked sketch that is this one, in this memory
+pub record IsOf (s : Sketch) (regs aux : List ℕ) (h : Checked) : Type 0 where
+  pub sketch_is : h.sketch ≡ s
+  pub regs_are : h.regs.now ≡ regs
+  pub aux_are : h.aux.now ≡ aux
 
 -- what unpack gives back: the number, and what the buffer then holds
 pub record Unpacked : Type 0 where

@@ -1,5 +1,5 @@
 -- What is claimed of all this: the three demands, what a call leaves of any sketch in good order, and what an image is worth. proofs/Claims.antt has the proofs.
-use Rattle.std.specs.Prelude.{◌≡◌, ◌⊎◌, Bool, true, false, ℕ, min, ◌+◌, ◌*◌, ◌-◌, ◌/◌, ◌%◌, ◌^◌, ◌<◌, ◌≤◌, pos, Float, eqb, length, get_or, take}
+use Rattle.std.specs.Prelude.{◌≡◌, ◌⊎◌, Bool, true, false, ℕ, min, ◌+◌, ◌*◌, ◌-◌, ◌/◌, ◌%◌, ◌^◌, ◌<◌, ◌≤◌, pos, Float, eqb, length, get_or, take, Result}
 use mathlib.Core.List.{List, [], ◌∷◌, ◌++◌, Memᴰ}
 use Rattle.std.specs.Float.{fin}
 use Rattle.std.specs.Float.Ieee.Exact.{HasValue}
@@ -11,14 +11,16 @@ use Rattle.model.specs.Table.{base_for, table_size, Member, filled}
 use Rattle.model.specs.Four.{NoRoom}
 use Rattle.model.specs.Sketch.{bytes_of, cells, registers, Good}
 use Rattle.model.specs.Sums.{scaled}
-use Rattle.model.specs.Calls.{Out, out, nothing, start_of, feed_of, unpacked_to, unpack_of, view_of, merge_of, Summed, summed_to, sums_of}
+use Rattle.model.specs.Calls.{Out, out, nothing, kept_or, fed_out, start_of, feed_of, unpacked_to, unpack_of, view_of, merge_of, Summed, summed_to, sums_of}
 use Rattle.model.specs.Faults.{aux_fault}
-use Rattle.model.specs.Image.{image_in, wrote, write_of, sketch_in, regs_in, compact_in, word_count, words_in, entries_in, open_of}
+use Rattle.model.specs.Image.{image_in, wrote, wrote_out, write_of, sketch_in, regs_in, compact_in, word_count, words_in, entries_in, open_of}
 use Rattle.model.specs.Lists.{coupon_count, coupons_in, preamble_no, coupons_no, feed_image_of}
 use Rattle.model.specs.History.{here, Call, run}
-use Rattle.model.specs.Answers.{number_of, place_of, Said, said}
-use Rattle.model.specs.declared.Answer.{Answer}
+use Rattle.model.specs.Answers.{Answer, number_of, place_of, Said, said}
 use Rattle.model.specs.declared.Sketch.{Sketch}
+use Rattle.model.specs.declared.Refusal.{Refusal}
+use Rattle.model.specs.declared.Fed.{Fed}
+use Rattle.model.specs.declared.Stopped.{Stopped}
 
 -- ---- demand 1: every call answers by the table
 -- a line of the table: the answer, a number or what it says, is n unless Q holds; then the next line decides
@@ -208,7 +210,8 @@ pub record Unchanged : Type 0 where
   pub write_same : (s : Sketch) (regs aux buf : List ℕ) → let o = write_of s regs aux buf in (o.no ≡ 0 → ⊥) → o ≡ wrote o.no 0 buf
   pub open_same : (l regs aux scratch : List ℕ) → let o = open_of l regs aux scratch in (o.no ≡ 0 → ⊥) → o ≡ out o.no o.place nothing 0 regs aux
 
--- two results that meet one call's equation coincide, the answer by name and place: of start, feed, feed_image, merge and open; of unpack; of view; of sums, whose answer is the number; of write
+-- two results that meet one call's equation coincide, the answer by name and place: of start, feed, feed_image, merge and open; of unpack; of view; of sums, whose answer is the number; of write;
+-- and the results themselves, as the calls give them, with the memory that they leave: of start, merge and open; of feed and feed_image; of write
 pub record Coincide : Type 0 where
   pub made_same : (o : Out) (a b : Answer) (s t : Sketch) (c d : ℕ) (r q x y : List ℕ) → out (number_of a) (place_of a) s c r x ≡ o → out (number_of b) (place_of b) t d q y ≡ o
       → (a ≡ b) × ((s ≡ t) × ((c ≡ d) × ((r ≡ q) × (x ≡ y))))
@@ -217,6 +220,9 @@ pub record Coincide : Type 0 where
   pub summed_same : (o : Summed) (m n : ℕ) (x y u v : Float) → summed_to m x u ≡ o → summed_to n y v ≡ o → (m ≡ n) × ((x ≡ y) × (u ≡ v))
   pub written_same : (s : Sketch) (regs aux buf : List ℕ) (a b : Answer) (m n : ℕ) (x y : List ℕ) → wrote (number_of a) m x ≡ write_of s regs aux buf → wrote (number_of b) n y ≡ write_of s regs aux buf
       → (a ≡ b) × ((m ≡ n) × (x ≡ y))
+  pub result_same : (o : Out) (came : Sketch) (a b : Result Sketch Refusal) (r q x y : List ℕ) → kept_or came a r x ≡ o → kept_or came b q y ≡ o → (a ≡ b) × ((r ≡ q) × (x ≡ y))
+  pub fed_same : (o : Out) (a b : Result Fed Stopped) (r q x y : List ℕ) → fed_out a r x ≡ o → fed_out b q y ≡ o → (a ≡ b) × ((r ≡ q) × (x ≡ y))
+  pub length_same : (s : Sketch) (regs aux buf : List ℕ) (a b : Result ℕ Refusal) (x y : List ℕ) → wrote_out a x ≡ write_of s regs aux buf → wrote_out b y ≡ write_of s regs aux buf → (a ≡ b) × (x ≡ y)
 
 -- ---- over any sketch in good order, wherever it came from
 -- a sketch of this kind and size is in good order, and R are its registers

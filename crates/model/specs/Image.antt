@@ -1,9 +1,9 @@
 -- The image of a sketch, and what write and open do for every input. Little-endian throughout: fields of 32 and 64 bits are packed cells.
-use Rattle.std.specs.Prelude.{ℕ, ◌+◌, ◌*◌, ◌/◌, ◌%◌, ◌^◌, Bool, true, List, [], ◌∷◌, ◌++◌, map, eqb, leb, length, get_or, take, drop}
+use Rattle.std.specs.Prelude.{ℕ, ◌+◌, ◌*◌, ◌/◌, ◌%◌, ◌^◌, Bool, true, List, [], ◌∷◌, ◌++◌, map, eqb, leb, length, get_or, take, drop, Result, Ok, Err}
 use Rattle.std.specs.Float.{binary64}
 use Rattle.std.specs.Float.Ieee.{to_bits}
 use Rattle.model.specs.Pick.{pick, both, first_of}
-use Rattle.model.specs.Answers.{Said, said, placed}
+use Rattle.model.specs.Answers.{refusal_no, Said, said, placed}
 use Rattle.model.specs.Coupon.{value, home, word}
 use Rattle.model.specs.Packed.{slot_at, unpacked, packed}
 use Rattle.model.specs.Table.{base_for, table_size, filled, made}
@@ -13,6 +13,7 @@ use Rattle.model.specs.Check.{counts_fit, values_fit, spare_fits, tally_fits, lg
 use Rattle.model.specs.Sums.{kxq0, kxq1}
 use Rattle.model.specs.Calls.{Out, out, refused_at, nothing}
 use Rattle.model.specs.declared.Sketch.{Sketch}
+use Rattle.model.specs.declared.Refusal.{Refusal}
 
 -- ---- the layout
 -- byte 7: 2, 6 or 10
@@ -52,6 +53,11 @@ pub record Written : Type 0 where
 -- one, by its parts
 abbrev pub wrote : ℕ → ℕ → List ℕ → Written
 wrote n len l = record { no = n; len = len; out = l }
+
+-- what write gives, the length or a refusal, and what the buffer then holds
+abbrev pub wrote_out : Result ℕ Refusal → List ℕ → Written
+wrote_out (Ok len) l = wrote 0 len l
+wrote_out (Err e) l = wrote (refusal_no e) 0 l
 
 -- the sketch's checks, then OUT
 unfoldable pub write_no : Sketch → List ℕ → List ℕ → List ℕ → ℕ

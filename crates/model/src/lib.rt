@@ -1,11 +1,12 @@
-// The code of the book: the record of a sketch, the answers of the table of refusals, and what calls give. All else here is specs/ and proofs/.
+// The code of the book: the record of a sketch, the table of refusals, and what a batch gives. All else here is specs/ and proofs/.
 #![tactic(auto)]
 
-ghost use Rattle.std.specs.Prelude.{◌≡◌};
-ghost use Rattle.model.specs.Answers.{number_of, place_of};
-ghost use Rattle.model.specs.Calls.{refused_made};
+ghost use Rattle.std.specs.Prelude.{◌≡◌, true};
+ghost use Rattle.model.specs.Answers.{refusal_no, refusal_place};
+ghost use Rattle.model.specs.Packed.{Bytes};
+ghost use Rattle.model.specs.Check.{check_no};
 
-// Any values may stand here: a call refuses what is not in good order.
+// Any values may stand here: a call refuses what is not in good order. So the kind is a number: KIND is the answer to all but three (claim `Demand1`).
 #[derive(Clone, Copy)]
 pub struct Sketch {
     pub kind: u8,
@@ -15,10 +16,19 @@ pub struct Sketch {
     pub aux_count: u32,
 }
 
-// A case with a place carries it: a word's position, or a slot.
+// A sketch that has passed its checks, with the memory that it is kept in: whoever is handed one asks for nothing more.
 #[derive(Clone, Copy)]
-pub enum Answer {
-    Ok,
+pub struct Checked<'a> {
+    pub sketch: Sketch,
+    pub regs: &'a [u8],
+    pub aux: &'a [u32],
+    ghost bytes: { Bytes regs.now },
+    ghost passed: { check_no true sketch regs.now aux.now ≡ 0 },
+}
+
+// Why a call is refused. A case with a place carries it: a word's position, or a slot.
+#[derive(Clone, Copy, Debug, PartialEq, Eq)]
+pub enum Refusal {
     Kind,
     LgK,
     Size,
@@ -43,95 +53,62 @@ pub enum Answer {
     ListEmpty(u32),
 }
 
-// What a call gives that makes a sketch or changes one by value.
-#[derive(Clone, Copy)]
-pub struct Made {
-    pub answer: Answer,
-    pub sketch: Sketch,
-}
-
-// The same of a batch, with how many coupons were taken.
+// The record after a batch, and how many of its coupons were taken.
 #[derive(Clone, Copy)]
 pub struct Fed {
-    pub answer: Answer,
     pub sketch: Sketch,
     pub taken: usize,
 }
 
-// A refusal of a call that makes a sketch: its record is of zeros.
-pub fn refused(answer: Answer) -> Made
-    ensures { result ≡ refused_made answer }
-{
-    Made {
-        answer,
-        sketch: Sketch {
-            kind: 0,
-            lg_k: 0,
-            cur_min: 0,
-            num_at_cur_min: 0,
-            aux_count: 0,
-        },
-    }
+// Why a batch was refused or stopped, and what it came to all the same: one that is stopped keeps what it took.
+#[derive(Clone, Copy)]
+pub struct Stopped {
+    pub why: Refusal,
+    pub fed: Fed,
 }
 
-// The answer's number in the table of refusals.
-pub fn number(a: Answer) -> u8
-    ensures { result ≡ number_of a }
-{
-    match a {
-        Answer::Ok => 0,
-        Answer::Kind => 1,
-        Answer::LgK => 2,
-        Answer::Size => 3,
-        Answer::Damaged => 4,
-        Answer::Finer => 5,
-        Answer::NoRoom => 6,
-        Answer::Short => 7,
-        Answer::Header => 8,
-        Answer::Mode => 9,
-        Answer::Counts => 10,
-        Answer::LgArr => 11,
-        Answer::Value => 12,
-        Answer::Spare => 14,
-        Answer::Tally => 15,
-        Answer::Out => 16,
-        Answer::AuxEmpty(_) => 21,
-        Answer::AuxTwice(_) => 22,
-        Answer::AuxLow(_) => 23,
-        Answer::AuxCount => 24,
-        Answer::AuxMatch(_) => 25,
-        Answer::Form => 26,
-        Answer::ListEmpty(_) => 27,
+impl Refusal {
+    // Its number in the table of refusals.
+    pub fn number(self) -> u8
+        ensures { result ≡ refusal_no self }
+    {
+        match self {
+            Refusal::Kind => 1,
+            Refusal::LgK => 2,
+            Refusal::Size => 3,
+            Refusal::Damaged => 4,
+            Refusal::Finer => 5,
+            Refusal::NoRoom => 6,
+            Refusal::Short => 7,
+            Refusal::Header => 8,
+            Refusal::Mode => 9,
+            Refusal::Counts => 10,
+            Refusal::LgArr => 11,
+            Refusal::Value => 12,
+            Refusal::Spare => 14,
+            Refusal::Tally => 15,
+            Refusal::Out => 16,
+            Refusal::AuxEmpty(_) => 21,
+            Refusal::AuxTwice(_) => 22,
+            Refusal::AuxLow(_) => 23,
+            Refusal::AuxCount => 24,
+            Refusal::AuxMatch(_) => 25,
+            Refusal::Form => 26,
+            Refusal::ListEmpty(_) => 27,
+        }
     }
-}
 
-// The answer's place, or 0.
-pub fn place(a: Answer) -> u32
-    ensures { result ≡ place_of a }
-{
-    match a {
-        Answer::Ok => 0,
-        Answer::Kind => 0,
-        Answer::LgK => 0,
-        Answer::Size => 0,
-        Answer::Damaged => 0,
-        Answer::Finer => 0,
-        Answer::NoRoom => 0,
-        Answer::Short => 0,
-        Answer::Header => 0,
-        Answer::Mode => 0,
-        Answer::Counts => 0,
-        Answer::LgArr => 0,
-        Answer::Value => 0,
-        Answer::Spare => 0,
-        Answer::Tally => 0,
-        Answer::Out => 0,
-        Answer::AuxEmpty(i) => i,
-        Answer::AuxTwice(i) => i,
-        Answer::AuxLow(i) => i,
-        Answer::AuxCount => 0,
-        Answer::AuxMatch(s) => s,
-        Answer::Form => 0,
-        Answer::ListEmpty(i) => i,
+    // Its place, or 0 where it has none.
+    pub fn place(self) -> u32
+        ensures { result ≡ refusal_place self }
+    {
+        match self {
+            Refusal::AuxEmpty(at)
+            | Refusal::AuxTwice(at)
+            | Refusal::AuxLow(at)
+            | Refusal::AuxMatch(at)
+            | Refusal::ListEmpty(at) => at,
+            _ => 0,
+        }
     }
 }

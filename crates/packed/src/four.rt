@@ -28,11 +28,8 @@ pub fn unpack(regs: &[u8], out: &mut [u8])
     requires { length out.old ≡ 2 * length regs.now }
     ensures { out.new ≡ unpacked 4 (length out.old) regs.now }
 {
-    let mut at = 0;
-    while at < regs.len() {
-        let byte = regs[at];
-        out[2 * at] = byte % 16;
-        out[2 * at + 1] = byte >> 4;
-        at += 1;
+    for (at, byte) in regs.iter().enumerate() {
+        out[2 * at] = *byte % 16;
+        out[2 * at + 1] = *byte >> 4;
     }
 }

@@ -8,7 +8,7 @@ ghost use Rattle.packed.specs.Room.{Slot6, Room6};
 fn window(low: u8, high: u8) -> u16
     ensures { result ≡ high * 256 + low }
 {
-    (high as u16) * 256 + (low as u16)
+    u16::from_le_bytes([low, high])
 }
 
 // No bit may be lost at the top: the shift is then a product, and the exchange below is exact.
@@ -31,8 +31,8 @@ fn replaced(window: u16, from: u32, value: u8) -> u16
     requires { (from < 8) × (value < 64) }
     ensures { result + window / 2 ^ from % 2 ^ 6 * 2 ^ from ≡ window + value * 2 ^ from }
 {
-    let old = field(window, from) as u16;
-    window - raised(old, from) + raised(value as u16, from)
+    let old = u16::from(field(window, from));
+    window - raised(old, from) + raised(u16::from(value), from)
 }
 
 pub fn get_raw(regs: &[u8], slot: u32) -> u8
@@ -60,9 +60,7 @@ pub fn unpack(regs: &[u8], out: &mut [u8])
     requires { Room6 (length out.old) (length regs.now) }
     ensures { out.new ≡ unpacked 6 (length out.old) regs.now }
 {
-    let mut slot = 0;
-    while slot < out.len() {
-        out[slot] = get_raw(regs, slot as u32);
-        slot += 1;
+    for (slot, cell) in out.iter_mut().enumerate() {
+        *cell = get_raw(regs, slot as u32);
     }
 }

@@ -1,54 +1,26 @@
 // A sketch with its memory, by value, and what each line does with it through the public calls. Memory is lent as long as kind and lg_k
-// ask for; a call that refuses leaves the sketch as it was, so that one fault counts once.
-ghost use Rattle.std.specs.Prelude.{◌≤◌, length};
+// ask for; a call that refuses gives no sketch, so that the one at hand stays as it was and one fault counts once.
+ghost use Rattle.std.specs.Prelude.{◌≤◌};
 
-use crate::{hex, same};
-use model::Sketch;
+use crate::hex;
+use model::{Refusal, Sketch};
 
 // Registers for lg_k up to 10, and a table for as many exceptions as there can be.
 #[derive(Clone, Copy)]
 pub struct Held {
-    pub sketch: Sketch,
-    pub regs: [u8; 1024],
-    pub aux: [u32; 2048],
+    sketch: Sketch,
+    regs: [u8; 1024],
+    aux: [u32; 2048],
 }
 
-#[derive(Clone, Copy)]
-pub struct Done {
-    pub right: bool,
-    pub held: Held,
-}
-
-pub fn none() -> Held {
-    Held {
-        sketch: Sketch {
-            kind: 0,
-            lg_k: 0,
-            cur_min: 0,
-            num_at_cur_min: 0,
-            aux_count: 0,
-        },
-        regs: [0u8; 1024],
-        aux: [0u32; 2048],
+// The register bytes of a kind and a size; none for sizes that there is no room for, which every call refuses as too few.
+fn size_of(kind: u8, lg_k: u8) -> usize
+    ensures { result ≤ 1024 }
+{
+    if 10 < lg_k {
+        return 0;
     }
-}
-
-// A line that only says what is.
-pub fn told(right: bool, held: Held) -> Done {
-    Done { right, held }
-}
-
-fn changed(no: u8, held: Held, next: Held) -> Done {
-    if no != 0 {
-        return Done { right: false, held };
-    }
-    Done {
-        right: true,
-        held: next,
-    }
-}
-
-fn bytes_for(kind: u8, k: usize) -> usize {
+    let k = 1usize << lg_k;
     match kind {
         4 => k / 2,
         6 => k / 4 * 3 + 1,
@@ -56,211 +28,204 @@ fn bytes_for(kind: u8, k: usize) -> usize {
     }
 }
 
-// The register bytes of a kind and a size, 0 for sizes that there is no room for.
-fn size_of(kind: u8, lg_k: u8) -> usize {
-    if 10 < lg_k {
-        return 0;
-    }
-    bytes_for(kind, 1usize << lg_k)
-}
-
-// Memory comes with something in it, so that start has something to clear.
-pub fn start(held: Held, said: &[u8]) -> Done {
-    if said.len() != 2 {
-        return told(false, held);
-    }
-    let kind = said[0];
-    let lg_k = said[1];
-    let mut regs = [7u8; 1024];
-    let mut aux = [9u32; 2048];
-    let n = same::clipped(size_of(kind, lg_k), &regs);
-    let made = sketch::start(kind, lg_k, &mut regs[..n], &mut aux);
-    let answer = made.answer;
-    let sketch = made.sketch;
-    changed(model::number(answer), held, Held { sketch, regs, aux })
-}
-
-pub fn feed(held: Held, said: &[u8]) -> Done {
-    let s = held.sketch;
-    let mut regs = held.regs;
-    let mut aux = held.aux;
-    let mut scratch = [5u32; 2048];
-    let mut coupons = [0u32; 4096];
-    if said.len() % 4 != 0 {
-        return told(false, held);
-    }
-    let many = hex::words(said, &mut coupons);
-    let n = same::clipped(size_of(s.kind, s.lg_k), &regs);
-    let fed = sketch::feed(s, &mut regs[..n], &mut aux, &mut scratch, &coupons[..many]);
-    let answer = fed.answer;
-    let sketch = fed.sketch;
-    changed(model::number(answer), held, Held { sketch, regs, aux })
-}
-
-pub fn merge(held: Held, said: &[u8], source: Held) -> Done {
-    let s = held.sketch;
-    let mut regs = held.regs;
-    let aux = held.aux;
-    let theirs = source.sketch;
-    let sregs = source.regs;
-    let saux = source.aux;
-    if said.len() != 0 {
-        return told(false, held);
-    }
-    let n = same::clipped(size_of(s.kind, s.lg_k), &regs);
-    let m = same::clipped(size_of(theirs.kind, theirs.lg_k), &sregs);
-    let made = sketch::merge(s, &mut regs[..n], theirs, &sregs[..m], &saux);
-    let answer = made.answer;
-    let sketch = made.sketch;
-    changed(model::number(answer), held, Held { sketch, regs, aux })
-}
-
-// The kind that an image's mode byte says; 0 for what is no mode.
-fn kind_of(mode: u8) -> u8 {
+// The kind that an image's mode byte says.
+fn kind_of(mode: u8) -> Option<u8> {
     match mode {
-        2 => 4,
-        6 => 6,
-        10 => 8,
+        2 => Some(4),
+        6 => Some(6),
+        10 => Some(8),
+        _ => None,
+    }
+}
+
+// The register bytes of the sketch that an image is of. One of no kind is refused whatever is lent.
+fn size_in(image: &[u8]) -> usize
+    ensures { result ≤ 1024 }
+{
+    match image {
+        [_, _, _, lg_k, _, _, _, mode, ..] => match kind_of(*mode) {
+            Some(kind) => size_of(kind, *lg_k),
+            None => 0,
+        },
         _ => 0,
     }
 }
 
-fn size_in(image: &[u8]) -> usize {
-    if image.len() < 8 {
-        return 0;
-    }
-    size_of(kind_of(image[7]), image[3])
+// The number and the place that a line says of the call's answer, and the image behind them.
+fn answer_in(said: &[u8]) -> Option<(u8, u32, &[u8])> {
+    let (number, rest) = said.split_first()?;
+    let (place, image) = rest.split_first_chunk::<4>()?;
+    Some((*number, u32::from_be_bytes(*place), image))
 }
 
-// What a call answered to an image, and the sketch after it.
-#[derive(Clone, Copy)]
-struct Answered {
-    no: u8,
-    place: u32,
-    held: Held,
-}
-
-fn try_open(image: &[u8]) -> Answered {
-    let mut regs = [7u8; 1024];
-    let mut aux = [9u32; 2048];
-    let mut scratch = [5u32; 2048];
-    let n = same::clipped(size_in(image), &regs);
-    let made = image_open::open(image, &mut regs[..n], &mut aux, &mut scratch);
-    let answer = made.answer;
-    let sketch = made.sketch;
-    Answered {
-        no: model::number(answer),
-        place: model::place(answer),
-        held: Held { sketch, regs, aux },
+// Whether a call answered with this number and this place.
+fn says<T>(answer: &Result<T, Refusal>, number: u8, place: u32) -> bool {
+    match answer {
+        Ok(_) => number == 0 && place == 0,
+        Err(why) => why.number() == number && why.place() == place,
     }
 }
 
-pub fn open(held: Held, image: &[u8]) -> Done {
-    let o = try_open(image);
-    let next = o.held;
-    changed(o.no, held, next)
+// Where an image of ours differs by design: the flags, and from 8 up to a place.
+fn is_free(at: usize, upto: usize) -> bool {
+    at == 5 || 8 <= at && at < upto
 }
 
-// SIZE and NO_ROOM, 3 and 6, speak of the memory lent and not of the image.
+// Whether an image of ours begins with what was said.
+fn agrees(ours: &[u8], said: &[u8], upto: usize) -> bool {
+    ours.iter()
+        .zip(said)
+        .enumerate()
+        .all(|(at, (a, b))| a == b || is_free(at, upto))
+}
+
+// SIZE and NO_ROOM speak of the memory lent and not of the image.
 pub fn refuses(image: &[u8]) -> bool {
-    let no = try_open(image).no;
-    no != 0 && no != 3 && no != 6
-}
-
-// A line that begins with the number and the four bytes of the place; an image follows.
-fn begins(said: &[u8], no: u8, place: u32) -> bool
-    requires { 5 ≤ length said.now }
-{
-    no == said[0] && place == hex::word(said[1], said[2], said[3], said[4])
+    match Held::open(image) {
+        Ok(_) => false,
+        Err(why) => !matches!(why, Refusal::Size | Refusal::NoRoom),
+    }
 }
 
 pub fn answers(said: &[u8]) -> bool {
-    if said.len() < 5 {
-        return false;
-    }
-    let o = try_open(&said[5..]);
-    begins(said, o.no, o.place)
-}
-
-fn try_feed(held: Held, image: &[u8]) -> Answered {
-    let s = held.sketch;
-    let mut regs = held.regs;
-    let mut aux = held.aux;
-    let mut scratch = [5u32; 2048];
-    let n = same::clipped(size_of(s.kind, s.lg_k), &regs);
-    let fed = image_feed::feed_image(s, &mut regs[..n], &mut aux, &mut scratch, image);
-    let answer = fed.answer;
-    let sketch = fed.sketch;
-    Answered {
-        no: model::number(answer),
-        place: model::place(answer),
-        held: Held { sketch, regs, aux },
+    match answer_in(said) {
+        Some((number, place, image)) => says(&Held::open(image), number, place),
+        None => false,
     }
 }
 
-pub fn feed_image(held: Held, image: &[u8]) -> Done {
-    let f = try_feed(held, image);
-    let next = f.held;
-    changed(f.no, held, next)
-}
-
-// Refused, the memory is what it was.
-fn kept(no: u8, before: Held, after: Held) -> bool {
-    let regs = before.regs;
-    let aux = before.aux;
-    let left = after.regs;
-    let over = after.aux;
-    no == 0 || same::bytes(&left, &regs, 0) && same::words(&over, &aux)
-}
-
-pub fn feed_answers(held: Held, said: &[u8]) -> bool {
-    if said.len() < 5 {
-        return false;
+impl Held {
+    // No sketch: each call refuses it.
+    pub fn none() -> Self {
+        Self {
+            sketch: Sketch {
+                kind: 0,
+                lg_k: 0,
+                cur_min: 0,
+                num_at_cur_min: 0,
+                aux_count: 0,
+            },
+            regs: [0; 1024],
+            aux: [0; 2048],
+        }
     }
-    let f = try_feed(held, &said[5..]);
-    let after = f.held;
-    kept(f.no, held, after) && begins(said, f.no, f.place)
-}
 
-// Into a slice, whose length is known after the call; unpack refuses any other length than k.
-fn unpacks_to(held: Held, said: &[u8], out: &mut [u8]) -> bool {
-    let s = held.sketch;
-    let regs = held.regs;
-    let aux = held.aux;
-    let n = same::clipped(size_of(s.kind, s.lg_k), &regs);
-    let k = same::clipped(said.len(), out);
-    let answer = sketch::unpack(s, &regs[..n], &aux, &mut out[..k]);
-    if model::number(answer) != 0 {
-        return false;
+    fn size(&self) -> usize
+        ensures { result ≤ 1024 }
+    {
+        size_of(self.sketch.kind, self.sketch.lg_k)
     }
-    same::bytes(out, said, 0)
-}
 
-pub fn has_registers(held: Held, said: &[u8]) -> bool {
-    let mut out = [0u8; 1024];
-    unpacks_to(held, said, &mut out)
-}
-
-pub fn has_table(held: Held, said: &[u8]) -> bool {
-    let aux = held.aux;
-    let mut wanted = [0u32; 2048];
-    if said.len() % 4 != 0 || 8192 < said.len() {
-        return false;
+    // The register bytes that kind and lg_k ask for.
+    fn registers(&self) -> &[u8] {
+        &self.regs[..self.size()]
     }
-    hex::words(said, &mut wanted);
-    same::words(&aux, &wanted)
-}
 
-pub fn has_image(held: Held, said: &[u8], upto: usize) -> bool {
-    let s = held.sketch;
-    let regs = held.regs;
-    let aux = held.aux;
-    let mut out = [0u8; 16384];
-    let n = same::clipped(size_of(s.kind, s.lg_k), &regs);
-    let written = image_write::write(s, &regs[..n], &aux, &mut out);
-    let answer = written.answer;
-    if model::number(answer) != 0 || written.len != said.len() {
-        return false;
+    // Memory comes with something in it, so that start has something to clear.
+    pub fn start(said: &[u8]) -> Option<Self> {
+        let [kind, lg_k] = said else {
+            return None;
+        };
+        let mut regs = [7u8; 1024];
+        let mut aux = [9u32; 2048];
+        let n = size_of(*kind, *lg_k);
+        let sketch = sketch::start(*kind, *lg_k, &mut regs[..n], &mut aux).ok()?;
+        Some(Self { sketch, regs, aux })
     }
-    same::bytes(&out, said, upto)
+
+    pub fn open(image: &[u8]) -> Result<Self, Refusal> {
+        let mut regs = [7u8; 1024];
+        let mut aux = [9u32; 2048];
+        let mut scratch = [5u32; 2048];
+        let n = size_in(image);
+        let sketch = image_open::open(image, &mut regs[..n], &mut aux, &mut scratch)?;
+        Ok(Self { sketch, regs, aux })
+    }
+
+    pub fn feed(mut self, said: &[u8]) -> Option<Self> {
+        let mut coupons = [0u32; 4096];
+        let mut scratch = [5u32; 2048];
+        let coupons = hex::words(said, &mut coupons)?;
+        let n = self.size();
+        let fed = sketch::feed(
+            self.sketch,
+            &mut self.regs[..n],
+            &mut self.aux,
+            &mut scratch,
+            coupons,
+        )
+        .ok()?;
+        self.sketch = fed.sketch;
+        Some(self)
+    }
+
+    // The sketch after the call, and its answer. Refused or stopped, the record stays, and the memory is as the call left it.
+    fn after_image(mut self, image: &[u8]) -> (Self, Result<(), Refusal>) {
+        let mut scratch = [5u32; 2048];
+        let n = self.size();
+        match image_feed::feed_image(
+            self.sketch,
+            &mut self.regs[..n],
+            &mut self.aux,
+            &mut scratch,
+            image,
+        ) {
+            Ok(fed) => {
+                self.sketch = fed.sketch;
+                (self, Ok(()))
+            }
+            Err(stopped) => (self, Err(stopped.why)),
+        }
+    }
+
+    pub fn feed_image(self, image: &[u8]) -> Option<Self> {
+        let (after, answer) = self.after_image(image);
+        answer.ok()?;
+        Some(after)
+    }
+
+    // Refused, the memory is what it was.
+    pub fn feed_answers(self, said: &[u8]) -> bool {
+        let Some((number, place, image)) = answer_in(said) else {
+            return false;
+        };
+        let (after, answer) = self.after_image(image);
+        let kept = after.regs == self.regs && after.aux == self.aux;
+        (answer.is_ok() || kept) && says(&answer, number, place)
+    }
+
+    pub fn merge(mut self, source: &Held) -> Option<Self> {
+        let n = self.size();
+        self.sketch = sketch::merge(
+            self.sketch,
+            &mut self.regs[..n],
+            source.sketch,
+            source.registers(),
+            &source.aux,
+        )
+        .ok()?;
+        Some(self)
+    }
+
+    // unpack refuses any other length than k.
+    pub fn has_registers(&self, said: &[u8]) -> bool {
+        let mut out = [0u8; 1024];
+        let Some(out) = out.get_mut(..said.len()) else {
+            return false;
+        };
+        sketch::unpack(self.sketch, self.registers(), &self.aux, out).is_ok() && *out == *said
+    }
+
+    pub fn has_table(&self, said: &[u8]) -> bool {
+        let mut wanted = [0u32; 2048];
+        hex::words(said, &mut wanted).is_some() && self.aux == wanted
+    }
+
+    pub fn has_image(&self, said: &[u8], upto: usize) -> bool {
+        let mut out = [0u8; 16384];
+        match image_write::write(self.sketch, self.registers(), &self.aux, &mut out) {
+            Ok(len) => len == said.len() && agrees(&out, said, upto),
+            Err(_) => false,
+        }
+    }
 }

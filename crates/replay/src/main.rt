@@ -23,7 +23,6 @@
 
 mod held;
 mod hex;
-mod same;
 mod sum;
 mod tally;
 
@@ -31,103 +30,77 @@ ghost use Rattle.std.specs.Prelude.{◌≡◌, length};
 
 use held::Held;
 use std::io::Result;
+use std::mem;
 use std::rt::Files;
 use tally::Tally;
 
 #[derive(Clone, Copy)]
-struct State {
-    tally: Tally,
+struct Sketches {
     held: Held,
     aside: Held,
 }
 
-// What a line came to.
-#[derive(Clone, Copy)]
-struct Turn {
-    right: bool,
-    held: Held,
-    aside: Held,
+impl Sketches {
+    // Whether the line says what our calls do; if not, the sketches stay as they are. The letters are those of the table above, and stay
+    // letters: an enum of them would say each line's letter once more and nothing else.
+    fn obey(&mut self, letter: u8, said: &[u8]) -> bool {
+        let after = match letter {
+            b'S' => Held::start(said),
+            b'F' => self.held.feed(said),
+            b'L' => self.held.feed_image(said),
+            b'O' => Held::open(said).ok(),
+            b'M' if said.is_empty() => self.held.merge(&self.aside),
+            b'P' if said.is_empty() => Some(mem::replace(&mut self.aside, self.held)),
+            _ => return tells(letter, said, &self.held),
+        };
+        match after {
+            Some(held) => {
+                self.held = held;
+                true
+            }
+            None => false,
+        }
+    }
 }
 
-// The lines that say what the sketch is.
-fn tells(letter: u8, said: &[u8], held: Held) -> bool {
+// The lines that only say what the sketch is.
+fn tells(letter: u8, said: &[u8], held: &Held) -> bool {
     match letter {
-        b'R' => held::has_registers(held, said),
-        b'T' => held::has_table(held, said),
-        b'I' => held::has_image(held, said, 16),
-        b'J' => held::has_image(held, said, 32),
+        b'R' => held.has_registers(said),
+        b'T' => held.has_table(said),
+        b'I' => held.has_image(said, 16),
+        b'J' => held.has_image(said, 32),
         b'X' => held::refuses(said),
         b'A' => held::answers(said),
-        b'B' => held::feed_answers(held, said),
+        b'B' => held.feed_answers(said),
         _ => false,
     }
 }
 
-// The lines that change it.
-fn obey(letter: u8, said: &[u8], held: Held, aside: Held) -> Turn {
-    if letter == b'P' && said.len() == 0 {
-        return Turn {
-            right: true,
-            held: aside,
-            aside: held,
-        };
-    }
-    let done = match letter {
-        b'S' => held::start(held, said),
-        b'F' => held::feed(held, said),
-        b'L' => held::feed_image(held, said),
-        b'O' => held::open(held, said),
-        b'M' => held::merge(held, said, aside),
-        _ => held::told(tells(letter, said, held), held),
-    };
-    let after = done.held;
-    Turn {
-        right: done.right,
-        held: after,
-        aside,
-    }
-}
-
-// The letter of a line that was read whole, else 0, which says nothing and so differs.
-fn letter_of(line: &[u8], whole: bool) -> u8 {
-    if line.len() == 0 {
-        return 0;
-    }
-    if whole { line[0] } else { 0 }
-}
-
-// `ended`: the line has its line feed. A last line without one was cut.
-fn step(rt: &impl Print, state: State, line: &[u8], ended: bool) -> Result<State> {
-    let held = state.held;
-    let aside = state.aside;
-    let tally = state.tally;
+// The letter of a line that is right, and how many bytes it says.
+fn step(sketches: &mut Sketches, line: &[u8]) -> Option<(u8, usize)> {
     let mut bytes = [0u8; 16384];
-    let said = hex::bytes(line, &mut bytes);
-    let n = said.n;
-    let letter = letter_of(line, said.read && ended);
-    let turn = obey(letter, &bytes[..n], held, aside);
-    let mine = turn.held;
-    let other = turn.aside;
-    Ok(State {
-        tally: tally::count(rt, tally, letter, n, turn.right)?,
-        held: mine,
-        aside: other,
-    })
+    let (letter, said) = hex::line(line, &mut bytes)?;
+    if sketches.obey(letter, said) {
+        Some((letter, said.len()))
+    } else {
+        None
+    }
 }
 
 fn run(rt: &impl Print, text: &[u8]) -> Result<Tally> {
-    let mut state = State {
-        tally: tally::none(),
-        held: held::none(),
-        aside: held::none(),
+    let mut tally = Tally::default();
+    let mut sketches = Sketches {
+        held: Held::none(),
+        aside: Held::none(),
     };
-    let mut at = 0;
-    while at < text.len() {
-        let end = hex::line_end(text, at);
-        state = step(rt, state, &text[at..end], end < text.len())?;
-        at = end + 1;
+    for line in text.split_inclusive(|b| *b == b'\n') {
+        match step(&mut sketches, line) {
+            Some((letter, n)) => tally.agree(letter, n),
+            None => tally.differ(rt)?,
+        }
     }
-    Ok(state.tally)
+    Ok(tally)
 }
 
 // Room for a list. Its length alone is said, since nobody needs to look at so many zeros.
@@ -141,16 +114,16 @@ fn room() -> [u8; 1048576]
 fn replay<R: Files + Print>(rt: &R, path: &str) -> Result<()> {
     let mut text = room();
     println!(rt; "list={path}")?;
-    let got = files::load(rt, path.as_bytes(), &mut text);
-    let n = got.n;
-    if got.failed {
+    let Ok(n) = files::load(rt, path.as_bytes(), &mut text) else {
         return println!(rt; "fault=not read");
-    }
-    if n == 1048576 {
+    };
+    if n == text.len() {
         return println!(rt; "fault=too long");
     }
-    tally::show(rt, "sum=", sum::of(&text[..n]))?;
-    tally::report(rt, run(rt, &text[..n])?)
+    let text = &text[..n];
+    let sum = sum::of(text);
+    println!(rt; "sum={sum}")?;
+    run(rt, text)?.report(rt)
 }
 
 fn main(rt: HostRuntime) -> Result<()> {

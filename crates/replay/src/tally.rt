@@ -1,7 +1,7 @@
 use std::io::Result;
 
 // What was compared, and how much of it differed. A line that differs counts as that alone.
-#[derive(Clone, Copy)]
+#[derive(Clone, Copy, Default)]
 pub struct Tally {
     pub lines: u64,
     pub histories: u64,
@@ -17,86 +17,60 @@ pub struct Tally {
     pub differ: u64,
 }
 
-pub fn none() -> Tally {
-    Tally {
-        lines: 0,
-        histories: 0,
-        batches: 0,
-        lists: 0,
-        opens: 0,
-        refusals: 0,
-        places: 0,
-        merges: 0,
-        registers: 0,
-        words: 0,
-        bytes: 0,
-        differ: 0,
-    }
-}
-
 // Wraps, so that there is nothing to prove: no list is that long.
-fn plus(a: u64, b: usize) -> u64 {
-    a.wrapping_add(b as u64)
+fn add(total: &mut u64, n: usize) {
+    *total = total.wrapping_add(n as u64);
 }
 
-fn less(a: usize, b: usize) -> usize {
-    if a < b {
-        return 0;
+impl Tally {
+    // A line that is right, by its letter and how many bytes it says.
+    pub fn agree(&mut self, letter: u8, n: usize) {
+        add(&mut self.lines, 1);
+        match letter {
+            b'S' => add(&mut self.histories, 1),
+            b'F' => add(&mut self.batches, 1),
+            b'L' => add(&mut self.lists, 1),
+            b'O' => add(&mut self.opens, 1),
+            b'X' => add(&mut self.refusals, 1),
+            b'A' | b'B' => add(&mut self.places, 1),
+            b'M' => add(&mut self.merges, 1),
+            b'R' => add(&mut self.registers, n),
+            b'T' => add(&mut self.words, n / 4),
+            b'I' => add(&mut self.bytes, n.saturating_sub(9)),
+            b'J' => add(&mut self.bytes, n.saturating_sub(25)),
+            _ => {}
+        }
     }
-    a - b
-}
 
-pub fn show(rt: &impl Print, key: &str, n: u64) -> Result<()> {
-    println!(rt; "{key}{n}")
-}
-
-// The first few lines that differ are named.
-fn differing(rt: &impl Print, mut t: Tally) -> Result<Tally> {
-    t.differ = plus(t.differ, 1);
-    if t.differ <= 10 {
-        show(rt, "differs_at=", t.lines)?;
+    // The first few lines that differ are named.
+    pub fn differ(&mut self, rt: &impl Print) -> Result<()> {
+        add(&mut self.lines, 1);
+        add(&mut self.differ, 1);
+        let line = self.lines;
+        if self.differ <= 10 {
+            println!(rt; "differs_at={line}")?;
+        }
+        Ok(())
     }
-    Ok(t)
-}
 
-// A line of n bytes, which is right.
-fn agreeing(mut t: Tally, letter: u8, n: usize) -> Tally {
-    match letter {
-        b'S' => t.histories = plus(t.histories, 1),
-        b'F' => t.batches = plus(t.batches, 1),
-        b'L' => t.lists = plus(t.lists, 1),
-        b'O' => t.opens = plus(t.opens, 1),
-        b'X' => t.refusals = plus(t.refusals, 1),
-        b'A' | b'B' => t.places = plus(t.places, 1),
-        b'M' => t.merges = plus(t.merges, 1),
-        b'R' => t.registers = plus(t.registers, n),
-        b'T' => t.words = plus(t.words, n / 4),
-        b'I' => t.bytes = plus(t.bytes, less(n, 9)),
-        b'J' => t.bytes = plus(t.bytes, less(n, 25)),
-        _ => {}
+    pub fn report(&self, rt: &impl Print) -> Result<()> {
+        let counts = [
+            ("lines", self.lines),
+            ("histories", self.histories),
+            ("batches", self.batches),
+            ("lists", self.lists),
+            ("opens", self.opens),
+            ("refusals", self.refusals),
+            ("places", self.places),
+            ("merges", self.merges),
+            ("registers", self.registers),
+            ("table_words", self.words),
+            ("image_bytes", self.bytes),
+            ("differ", self.differ),
+        ];
+        for (name, n) in counts {
+            println!(rt; "{name}={n}")?;
+        }
+        Ok(())
     }
-    t
-}
-
-pub fn count(rt: &impl Print, mut t: Tally, letter: u8, n: usize, right: bool) -> Result<Tally> {
-    t.lines = plus(t.lines, 1);
-    if right {
-        return Ok(agreeing(t, letter, n));
-    }
-    differing(rt, t)
-}
-
-pub fn report(rt: &impl Print, t: Tally) -> Result<()> {
-    show(rt, "lines=", t.lines)?;
-    show(rt, "histories=", t.histories)?;
-    show(rt, "batches=", t.batches)?;
-    show(rt, "lists=", t.lists)?;
-    show(rt, "opens=", t.opens)?;
-    show(rt, "refusals=", t.refusals)?;
-    show(rt, "places=", t.places)?;
-    show(rt, "merges=", t.merges)?;
-    show(rt, "registers=", t.registers)?;
-    show(rt, "table_words=", t.words)?;
-    show(rt, "image_bytes=", t.bytes)?;
-    show(rt, "differ=", t.differ)
 }

@@ -1,19 +1,20 @@
--- The laws of `most`: no register is above it, and some register has it; and what a loop over the registers cites. Assumes nothing.
+-- The laws of `most`: no register is above it, and some register has it; and that it is what `max` gives. Assumes nothing.
 use mathlib.Core.Path.{◌≡◌, refl, sym, subst}
 use mathlib.Core.Bool.{Bool, true, false}
 use mathlib.Core.List.{List, [], ◌∷◌}
-use Prim.Native.Nat.{ℕ, zero, suc, ◌+◌, ◌≤◌, ◌<◌, zero-le, max}
+use Prim.Native.Nat.{ℕ, zero, suc, ◌≤◌, ◌<◌, zero-le, max}
 use native.Mathlib.Nat.{max-eq_left, max-eq_right}
-use native.Mathlib.Numerals.{add-one}
 use native.Mathlib.Decide.{dec_lt}
 use native.Mathlib.Omega.{arith}
 use lib.Dec.{eqb}
-use lib.ListN.{length, get_or, drop, drop_of_length-le}
-use lib.Seq.{drop-cons}
+use lib.ListN.{length, get_or}
 use borrow.Author.Tests.{eq-eqb}
 use Rattle.model.specs.Pick.{pick}
 use Rattle.model.specs.Registers.{count_of}
 use Rattle.report.specs.Report.{most}
+use Rattle.std.specs.Prelude.{Option, Some, None, MatchOption, unwrap_or}
+use Rattle.std.specs.List.{SomeIndex}
+use Rattle.std.proofs.lemmas.List.Recursion.{max_least}
 
 pub most_above : (R : List ℕ) (i : ℕ) → get_or R i 0 ≤ most R
 unfolding most
@@ -38,11 +39,13 @@ most_counted (v ∷ vs) h = go (dec_lt v (most vs)) (most_counted vs)
     go (yes k) rest = subst (λ (m : ℕ). 0 < count_of m (v ∷ vs)) (sym (max-eq_right {n = v} {m = most vs} (omega arith))) (omega (arith, more (eqb v (most vs)) (count_of (most vs) vs), rest (some vs k)))
     go (no k) rest = rw (max-eq_left {n = v} {m = most vs} (omega arith), eq-eqb v v refl) (omega arith)
 
--- a turn of a loop over both, and its end
-pub most_next : (R : List ℕ) (i m : ℕ) → i < length R → max m (most (drop i R)) ≡ max (max m (get_or R i 0)) (most (drop (i + 1) R))
+-- the largest that an iterator gives, where there is one
+pub top_most : (R : List ℕ) (o : Option ℕ) → MatchOption o (length R ≡ 0) (λ m. (i : ℕ) → i < length R → get_or R i 0 ≤ m) → MatchOption o (length R ≡ 0) (λ m. SomeIndex R (λ i. get_or R i 0 ≡ m)) → unwrap_or o 0 ≡ most R
 unfolding most
-most_next R i m h = rw (add-one, drop-cons R i 0 h) (omega arith)
-
-pub most_end : (R : List ℕ) (i m : ℕ) → length R ≤ i → max m (most (drop i R)) ≡ m
-unfolding most
-most_end R i m h = rw (drop_of_length-le R h) (omega arith)
+top_most [] None above some = refl
+top_most (v ∷ vs) None above some = absurd (omega arith)
+top_most R (Some m) above some =
+    let least = max_least most (λ v. v) refl (λ _ _. refl) R 0 m above in
+    let there = most_above R some.0 in
+    let is = some.2 in
+    omega arith

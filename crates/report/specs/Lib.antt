@@ -1,2 +1,1 @@
 pub mod Report
-pub mod Trimmed

@@ -31,36 +31,25 @@ pub const AUX_COUNT_BYTE: usize = 36;
 
 pub const REGISTERS_BYTE: usize = 40;
 
+// A kind is a number wherever it is handed in, since KIND answers every other one (claim `Demand1`), and C lends it as a word.
 pub fn is_kind(kind: u8) -> bool
     ensures { result ≡ is_kind kind }
 {
-    if kind == 4 {
-        return true;
-    }
-    if kind == 6 {
-        return true;
-    }
-    kind == 8
+    matches!(kind, 4 | 6 | 8)
 }
 
 // The sizes that there are.
 pub fn is_lg_k(lg_k: u8) -> bool
     ensures { Tells result ((4 ≤ lg_k) × (lg_k ≤ 21)) }
 {
-    if lg_k < 4 {
-        return false;
-    }
-    lg_k <= 21
+    (4..=21).contains(&lg_k)
 }
 
 // Only kind 4 uses scratch: no less of it than exception area.
 pub fn scratch_fits(kind: u8, aux_len: usize, scratch_len: usize) -> bool
     ensures { result ≡ scratch_fits kind aux_len scratch_len }
 {
-    if kind != 4 {
-        return true;
-    }
-    aux_len <= scratch_len
+    kind != 4 || aux_len <= scratch_len
 }
 
 pub fn num_registers(lg_k: u8) -> usize
@@ -76,11 +65,9 @@ pub fn bytes_of(kind: u8, lg_k: u8) -> usize
     ensures { result ≡ bytes_of kind lg_k }
 {
     let k = num_registers(lg_k);
-    if kind == 8 {
-        return k;
+    match kind {
+        8 => k,
+        6 => k / 4 * 3 + 1,
+        _ => k / 2,
     }
-    if kind == 6 {
-        return k / 4 * 3 + 1;
-    }
-    k / 2
 }

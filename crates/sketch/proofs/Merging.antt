@@ -14,11 +14,12 @@ use Rattle.model.specs.Sketch.{sketch_of, area_of, floors, table_in, registers, 
 use Rattle.model.specs.Check.{check_no}
 use Rattle.model.specs.Calls.{out, refused_at, refused_out, kept_out, eight_no, merge_no, merge_of}
 use Rattle.model.specs.declared.Sketch.{Sketch}
+use Rattle.model.specs.declared.Checked.{Checked}
 use Rattle.model.proofs.packing.ByteLists.{at_all}
 use Rattle.model.proofs.registers.Raising.{Small, length_poured, poured_small}
 use Rattle.model.proofs.packing.Packing.{unpacked_8}
 use Rattle.model.proofs.order.Plain.{bytes_8}
-use Rattle.model.proofs.calls.Has.{check_ok, eight_says, merge_says}
+use Rattle.model.proofs.calls.Has.{check_ok, checked_good, eight_says, merge_says}
 use Rattle.model.proofs.registers.Floors.{floors_words, fed_floors, good_floored}
 use Rattle.array8.specs.Asked.{Power, Finer}
 use Rattle.survey_whole.specs.Whole.{Cells}
@@ -26,38 +27,52 @@ use Rattle.blocks.specs.Asked.{Floor, Pourable, Worded}
 use Rattle.blocks.proofs.Levels.{good_level, whole_floor, whole_floors, good_worded}
 use Rattle.model.proofs.calls.Rungs.{no_target, no_source, no_finer}
 use Rattle.sketch_check.proofs.ByKind.{eight_long}
-use Rattle.sketch.specs.Asked.{Unpackable, Joinable}
+use Rattle.sketch.specs.Asked.{Joinable}
 use Rattle.sketch_feed.proofs.PlainKept.{eight_kept}
 
--- ---- the source: its floors, then the words of its table
-module _ (s : Sketch) (regs aux : List ℕ) (n : ℕ) (j : Joinable s regs aux n) where
-  target : Power n
-  target = record { lg = j.lg; power = j.power }
+-- ---- a checked sketch as a source
+module _ (h : Checked) where
+  abbrev s : Sketch
+  s = h.sketch
 
-  pub joins_floors : Pourable s (length regs) n
-  unfolding target
-  joins_floors = record { level = good_level s regs aux j.good; target = target; least = j.least; coarser = j.coarser }
+  abbrev regs : List ℕ
+  regs = h.regs.now
 
-  pub joins_words : {k : ℕ} → k ≡ n → Worded s (length aux) k
-  joins_words e = rw e (good_worded s regs aux j.good target)
+  abbrev aux : List ℕ
+  aux = h.aux.now
 
-  pub joins_all : (T : List ℕ) {after last : List ℕ} → after ≡ joined n T (floors s regs) → length after ≡ n → last ≡ fed (length after) after (table_in s aux) → last ≡ joined n T (registers s regs aux)
-  joins_all T floored long q = q ∙ rw (long, floored, j.power) (floors_words j.lg s.lg_k (good_floored s regs aux j.good) j.coarser T)
+  good : Good s regs aux
+  good = checked_good h
 
-  -- kind 8 as a source
-  pub source_8 : s.kind ≡ 8 → Finer n (length regs)
-  source_8 e = rw (eight_long j.good.shaped e) (record { target = target; source = record { lg = s.lg_k; power = refl }; most = rw j.power (pow_mono j.coarser) })
+  -- its floors, then the words of its table
+  module _ (n : ℕ) (j : Joinable s n) where
+    target : Power n
+    target = record { lg = j.lg; power = j.power }
 
--- ---- the same where nothing was
-module _ (s : Sketch) (regs aux : List ℕ) {n : ℕ} (u : Unpackable s regs aux n) where
-  pub whole_asks : Floor s (length regs) 0 n
-  whole_asks = whole_floor (good_level s regs aux u.good) u.long
+    pub joins_floors : Pourable s (length regs) n
+    unfolding target
+    joins_floors = record { level = good_level s regs aux good; target = target; least = j.least; coarser = j.coarser }
 
-  pub whole_words : {k : ℕ} → k ≡ n → Worded s (length aux) k
-  whole_words e = rw e (good_worded s regs aux u.good (record { lg = s.lg_k; power = u.long }))
+    pub joins_words : {k : ℕ} → k ≡ n → Worded s (length aux) k
+    joins_words e = rw e (good_worded s regs aux good target)
 
-  pub whole_all : {after last : List ℕ} → after ≡ take n (drop 0 (floors s regs)) → length after ≡ n → last ≡ fed (length after) after (table_in s aux) → last ≡ registers s regs aux
-  whole_all floored long q = q ∙ rw (long, whole_floors s regs u.long floored, u.long) (fed_floors (good_floored s regs aux u.good))
+    pub joins_all : (T : List ℕ) {after last : List ℕ} → after ≡ joined n T (floors s regs) → length after ≡ n → last ≡ fed (length after) after (table_in s aux) → last ≡ joined n T (registers s regs aux)
+    joins_all T floored long q = q ∙ rw (long, floored, j.power) (floors_words j.lg s.lg_k (good_floored s regs aux good) j.coarser T)
+
+    -- kind 8 as a source
+    pub source_8 : s.kind ≡ 8 → Finer n (length regs)
+    source_8 e = rw (eight_long good.shaped e) (record { target = target; source = record { lg = s.lg_k; power = refl }; most = rw j.power (pow_mono j.coarser) })
+
+  -- the same where nothing was
+  module _ {n : ℕ} (all : n ≡ 2 ^ s.lg_k) where
+    pub whole_asks : Floor s (length regs) 0 n
+    whole_asks = whole_floor (good_level s regs aux good) all
+
+    pub whole_words : {k : ℕ} → k ≡ n → Worded s (length aux) k
+    whole_words e = rw e (good_worded s regs aux good (record { lg = s.lg_k; power = all }))
+
+    pub whole_all : {after last : List ℕ} → after ≡ take n (drop 0 (floors s regs)) → length after ≡ n → last ≡ fed (length after) after (table_in s aux) → last ≡ registers s regs aux
+    whole_all floored long q = q ∙ rw (long, whole_floors s regs all floored, all) (fed_floors (good_floored s regs aux good))
 
 -- ---- the ladder
 -- what is known where nothing is refused
@@ -93,8 +108,11 @@ module _ {t : Sketch} {tregs : List ℕ} {s : Sketch} {sregs saux : List ℕ} (o
   long : length tregs ≡ 2 ^ t.lg_k
   long = eight_long of_target.shaped is_eight
 
-  pub joinable : Joinable s sregs saux (length tregs)
-  joinable = record { good = check_ok true s sregs saux ok.sbytes ok.source; lg = t.lg_k; power = long; least = of_target.shaped.low; coarser = ok.coarser }
+  source_good : Good s sregs saux
+  source_good = check_ok true s sregs saux ok.sbytes ok.source
+
+  pub joinable : Joinable s (length tregs)
+  joinable = record { lg = t.lg_k; power = long; least = of_target.shaped.low; coarser = ok.coarser }
 
   module _ {after : List ℕ} (joins : after ≡ joined (length tregs) tregs (registers s sregs saux)) where
     after_long : length after ≡ 2 ^ t.lg_k
@@ -104,7 +122,7 @@ module _ {t : Sketch} {tregs : List ℕ} {s : Sketch} {sregs saux : List ℕ} (o
     reads = bytes_8 t tregs [] is_eight of_target.shaped ok.tbytes
 
     after_small : Small after
-    after_small = rw joins (poured_small (length tregs) tregs 0 (registers s sregs saux) (rw reads at of_target.small) joinable.good.small)
+    after_small = rw joins (poured_small (length tregs) tregs 0 (registers s sregs saux) (rw reads at of_target.small) source_good.small)
 
     -- no more registers than can be counted
     pub after_cells : Cells 8 after

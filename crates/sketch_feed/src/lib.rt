@@ -10,9 +10,9 @@ ghost use Rattle.model.specs.Calls.{fed_out, refused_fed, batch_of};
 ghost use Rattle.sketch_feed.specs.Asked.{Ready, Plain};
 ghost use Rattle.sketch_feed.specs.Given.{KeptAs};
 
-use model::{Answer, Fed, Sketch};
+use model::{Fed, Refusal, Sketch, Stopped};
 
-// A record that says only how many registers are zero: of kinds 6 and 8, and of an empty sketch.
+// A record that says only how many registers are zero: of kinds 6 and 8, and of an empty sketch. The kind is a number, as in the record.
 pub fn plain(kind: u8, lg_k: u8, zeros: u32) -> Sketch
     ensures { result ≡ sketch_of kind lg_k 0 zeros 0 }
 {
@@ -26,7 +26,7 @@ pub fn plain(kind: u8, lg_k: u8, zeros: u32) -> Sketch
 }
 
 // The sketch's checks, with SIZE of scratch among them.
-pub fn check(s: Sketch, regs: &[u8], aux: &[u32], scratch_len: usize) -> Answer
+pub fn check(s: Sketch, regs: &[u8], aux: &[u32], scratch_len: usize) -> Result<(), Refusal>
     ensures { number_of result ≡ check_no (scratch_fits s.kind (length aux.now) scratch_len) s regs.now aux.now }
 {
     let fits = shape::scratch_fits(s.kind, aux.len(), scratch_len);
@@ -34,13 +34,12 @@ pub fn check(s: Sketch, regs: &[u8], aux: &[u32], scratch_len: usize) -> Answer
 }
 
 // Nothing was fed: the record is the one that came.
-pub fn refused(answer: Answer, sketch: Sketch) -> Fed
-    ensures { result ≡ refused_fed answer sketch }
+pub fn refused(why: Refusal, sketch: Sketch) -> Stopped
+    ensures { result ≡ refused_fed why sketch }
 {
-    Fed {
-        answer,
-        sketch,
-        taken: 0,
+    Stopped {
+        why,
+        fed: Fed { sketch, taken: 0 },
     }
 }
 
@@ -66,17 +65,15 @@ pub fn feed(
     aux: &mut [u32],
     scratch: &mut [u32],
     coupons: &[u32],
-) -> Fed
+) -> Result<Fed, Stopped>
     requires { Ready s regs.old aux.old scratch.old }
     ensures { fed_out result regs.new aux.new ≡ batch_of s regs.old aux.old coupons.now }
 {
     if s.kind == 4 {
         return array4::feed(s, regs, aux, scratch, coupons);
     }
-    let after = feed_plain(s, regs, coupons);
-    Fed {
-        answer: Answer::Ok,
-        sketch: after,
+    Ok(Fed {
+        sketch: feed_plain(s, regs, coupons),
         taken: coupons.len(),
-    }
+    })
 }

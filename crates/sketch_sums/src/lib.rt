@@ -12,13 +12,12 @@ use sums::Sums;
 pub fn sums(sketch: Sketch, regs: &[u8], aux: &[u32]) -> Sums
     ensures { summed result ≡ sums_of sketch regs.now aux.now }
 {
-    let answer = model::number(sketch_check::check(true, sketch, regs, aux));
-    if answer != 0 {
-        return Sums {
-            answer,
+    match sketch_check::checked(true, sketch, regs, aux) {
+        Err(why) => Sums {
+            answer: why.number(),
             kxq0: 0.0,
             kxq1: 0.0,
-        };
+        },
+        Ok(held) => sums::from_counts(block_counts::counts(held)),
     }
-    sums::from_counts(block_counts::counts(sketch, regs, aux))
 }

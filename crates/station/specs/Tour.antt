@@ -18,15 +18,15 @@ zero_at_fifteen = word 0 15
 
 -- kind 8, lg_k 4: register 3 at 5
 abbrev pub eight : Eight
-eight = record { started = 0; fed = 0; taken = 1; sketch = sketch_of 8 4 0 15 0; regs = 0 ∷ 0 ∷ 0 ∷ 5 ∷ 0 ∷ 0 ∷ 0 ∷ 0 ∷ 0 ∷ 0 ∷ 0 ∷ 0 ∷ 0 ∷ 0 ∷ 0 ∷ 0 ∷ [] }
+eight = record { taken = 1; sketch = sketch_of 8 4 0 15 0; regs = 0 ∷ 0 ∷ 0 ∷ 5 ∷ 0 ∷ 0 ∷ 0 ∷ 0 ∷ 0 ∷ 0 ∷ 0 ∷ 0 ∷ 0 ∷ 0 ∷ 0 ∷ 0 ∷ [] }
 
 -- kind 4, lg_k 4: register 0 at 15 is an exception, its nibble 15 and its word first in the area
 abbrev pub four : Four
-four = record { started = 0; fed = 0; taken = 1; sketch = sketch_of 4 4 0 15 1; regs = 15 ∷ 0 ∷ 0 ∷ 0 ∷ 0 ∷ 0 ∷ 0 ∷ 0 ∷ []; aux = zero_at_fifteen ∷ 0 ∷ 0 ∷ 0 ∷ 0 ∷ 0 ∷ 0 ∷ 0 ∷ [] }
+four = record { taken = 1; sketch = sketch_of 4 4 0 15 1; regs = 15 ∷ 0 ∷ 0 ∷ 0 ∷ 0 ∷ 0 ∷ 0 ∷ 0 ∷ []; aux = zero_at_fifteen ∷ 0 ∷ 0 ∷ 0 ∷ 0 ∷ 0 ∷ 0 ∷ 0 ∷ [] }
 
 -- both: of sixteen registers fourteen are still zero
 abbrev pub joined : Joined
-joined = record { merged = 0; sketch = sketch_of 8 4 0 14 0; regs = 15 ∷ 0 ∷ 0 ∷ 5 ∷ 0 ∷ 0 ∷ 0 ∷ 0 ∷ 0 ∷ 0 ∷ 0 ∷ 0 ∷ 0 ∷ 0 ∷ 0 ∷ 0 ∷ [] }
+joined = record { sketch = sketch_of 8 4 0 14 0; regs = 15 ∷ 0 ∷ 0 ∷ 5 ∷ 0 ∷ 0 ∷ 0 ∷ 0 ∷ 0 ∷ 0 ∷ 0 ∷ 0 ∷ 0 ∷ 0 ∷ 0 ∷ 0 ∷ [] }
 
 -- there is no kind 5: KIND, no coupon taken, and the registers as they were
 abbrev pub refused : Refused
@@ -39,7 +39,6 @@ totals = record { answer = 0; low = 0x402c100400000000; high = 0 }
 -- the kind 4 sketch's image: a header of 40 bytes with kxq0 = 15 + 2^-15, 8 register bytes, one exception word
 abbrev pub flat : Flat
 flat = record {
-  answer = 0;
   len = 52;
   bytes =
       10 ∷ 1 ∷ 7 ∷ 4 ∷ 0 ∷ 24 ∷ 0 ∷ 2

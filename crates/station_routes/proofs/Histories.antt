@@ -11,7 +11,7 @@ use borrow.Author.Tests.{eq-eqb}
 use Rattle.model.specs.Sketch.{Shaped, Good}
 use Rattle.model.specs.Check.{scratch_fits, check_no}
 use Rattle.model.proofs.calls.Rungs.{check_area}
-use Rattle.model.specs.Calls.{Out, start_of, feed_of, merge_no, merge_of}
+use Rattle.model.specs.Calls.{Out, start_of, batch_of, feed_of, merge_no, merge_of}
 use Rattle.model.specs.History.{Place, here, World, Call, start, feed, merge, put, feeds, merges, step, after, run, Stands}
 use Rattle.model.specs.Claims.{Scratch, FeedLine}
 use Rattle.model.specs.declared.Sketch.{Sketch}
@@ -39,6 +39,9 @@ module _ (cs : List Call) (n : ℕ) (c : Call) (f : World → Place) (puts : (w 
 
 -- ---- start
 module _ (kind lgk : ℕ) (mem area : List ℕ) {o : Out} (e : o ≡ start_of kind lgk mem area) (h : Shaped kind lgk (length mem)) where
+  pub start_goes : (start_of kind lgk mem area).no ≡ 0
+  start_goes = (start_has kind lgk mem area ((shape_says kind lgk (length mem)).1 h)).0
+
   pub stands_start : Gives kind lgk [] o
   unfolding after step
   stands_start =
@@ -51,18 +54,26 @@ module _ {kind lgk : ℕ} {got : List ℕ} {s : Sketch} {regs aux : List ℕ} (s
   abbrev p : Out
   p = feed_of s regs aux scratch cs
 
-  took : {count answer : ℕ} → p.no ≡ answer → FeedLine s regs aux cs count answer → count ≡ length cs
-  took q (inl (n, m, g)) = m
+  took : {count answer : ℕ} → p.no ≡ answer → FeedLine s regs aux cs count answer → (answer ≡ 0) × (count ≡ length cs)
+  took q (inl (n, m, g)) = (n, m)
   took q (inr (n, m, x, g)) = absurd ((twice_is_room s regs aux scratch cs [] (good_bytes (stands_good h)) (rw h.same_size (room (sym h.same_kind ∙ x.0)))).0 (q ∙ n))
+
+  is : p ≡ batch_of s regs aux cs
+  is =
+      let fits : scratch_fits s.kind (length aux) (length scratch) ≡ true = tells_true _ (scratch_tells s.kind aux scratch) (rw h.same_kind scratched) in
+      feed_is s regs aux scratch cs (ok_check _ s regs aux fits (stands_good h))
+
+  took_all : ((batch_of s regs aux cs).no ≡ 0) × ((batch_of s regs aux cs).count ≡ length cs)
+  took_all = took (ap (λ (q : Out). q.no) is) (batch_line s regs aux cs (stands_good h))
+
+  pub feed_goes : p.no ≡ 0
+  feed_goes = ap (λ (q : Out). q.no) is ∙ took_all.0
 
   pub stands_feed : Gives kind lgk (got ++ cs) o
   unfolding step feeds
   stands_feed =
-      let g = stands_good h in
-      let fits : scratch_fits s.kind (length aux) (length scratch) ≡ true = tells_true _ (scratch_tells s.kind aux scratch) (rw h.same_kind scratched) in
-      let is = feed_is s regs aux scratch cs (ok_check _ s regs aux fits g) in
-      let m = feed_keeps s regs aux scratch cs g in
-      let all : take p.count cs ≡ cs = ap (λ (k : ℕ). take k cs) (ap (λ (q : Out). q.count) is ∙ took (ap (λ (q : Out). q.no) is) (batch_line s regs aux cs g)) ∙ take-length cs in
+      let m = feed_keeps s regs aux scratch cs (stands_good h) in
+      let all : take p.count cs ≡ cs = ap (λ (k : ℕ). take k cs) (ap (λ (q : Out). q.count) is ∙ took_all.1) ∙ take-length cs in
       let call = feed h.number scratch cs in
       let fed = feeds (λ s regs aux. feed_of s regs aux scratch cs) cs in
       rw e (record {
@@ -84,6 +95,9 @@ module _ {kind lgk lgk' : ℕ} {got also : List ℕ} {t s : Sketch} {tregs taux 
   accepted =
       let mine = eight_check t tregs [] taux h.same_kind ∙ ok_check true t tregs taux refl (stands_good h) in
       (merge_says t tregs s sregs saux).1 ((h.same_kind, mine), (ok_check true s sregs saux refl (stands_good j), rw (h.same_size, j.same_size) le))
+
+  pub merge_goes : (merge_of t tregs s sregs saux).no ≡ 0
+  merge_goes = (merge_has t tregs taux s sregs saux (stands_good h) (stands_good j) accepted).0
 
   pub stands_merge : Stands 8 lgk (got ++ also) o.sketch o.regs taux
   unfolding step merges

@@ -9,6 +9,7 @@ ghost use Rattle.model.specs.Packed.{digits};
 ghost use Rattle.model.specs.Sums.{scaled};
 ghost use Rattle.sums.specs.Tally.{Counted, FewCounted, Registers, Room, Countable, said, CountedWords, Less, summed, sums_for};
 
+// Both sums as one answer, with its number, by value: the form that document 01 names for them.
 #[derive(Clone, Copy)]
 pub struct Sums {
     pub answer: u8,
@@ -21,8 +22,7 @@ pub fn count_in(counts: &mut [u32; 64], v: u8)
     requires { (v < 64) × Room counts.old 0 }
     ensures { (R : List ℕ) → Counted R counts.old → Counted (R ++ (v ∷ [])) counts.new }
 {
-    let at = v as usize;
-    counts[at] = counts[at] + 1;
+    counts[usize::from(v)] += 1;
 }
 
 // Registers counted in, one after the other.
@@ -30,23 +30,9 @@ pub fn count_all(counts: &mut [u32; 64], regs: &[u8])
     requires { Countable counts.old regs.now }
     ensures { (R : List ℕ) → Counted R counts.old → Counted (R ++ regs.now) counts.new }
 {
-    let mut i = 0;
-    while i < regs.len() {
-        count_in(counts, regs[i]);
-        i += 1;
+    for &value in regs {
+        count_in(counts, value);
     }
-}
-
-fn count_word(counts: &mut [u32; 64], word: u32) -> u32
-    requires { Room counts.old 0 }
-    ensures { CountedWords counts.old (word ∷ []) counts.new result }
-{
-    let value = coupon::value(word);
-    if value == 0 {
-        return 0;
-    }
-    count_in(counts, value);
-    1
 }
 
 // The words of an exception table, each as a register of its value; how many are not empty.
@@ -54,11 +40,13 @@ pub fn count_words(counts: &mut [u32; 64], words: &[u32]) -> u32
     requires { Room counts.old (length (said words.now)) }
     ensures { CountedWords counts.old words.now counts.new result }
 {
-    let mut many: u32 = 0;
-    let mut i = 0;
-    while i < words.len() {
-        many += count_word(counts, words[i]);
-        i += 1;
+    let mut many = 0;
+    for &word in words {
+        let value = coupon::value(word);
+        if value != 0 {
+            count_in(counts, value);
+            many += 1;
+        }
     }
     many
 }
@@ -68,8 +56,7 @@ pub fn count_out(counts: &mut [u32; 64], v: u8, many: u32)
     requires { (v < 64) × (many ≤ get_or counts.old v 0) }
     ensures { (L R : List ℕ) → Counted L counts.old → Less v many L R → Counted R counts.new }
 {
-    let at = v as usize;
-    counts[at] = counts[at] - many;
+    counts[usize::from(v)] -= many;
 }
 
 // All at once.
@@ -88,11 +75,9 @@ pub fn scaled_of(counts: [u32; 64], from: usize) -> u64
     requires { from ≤ 32 }
     ensures { (R : List ℕ) → Counted R counts → result ≡ scaled from R }
 {
-    let mut n = 0u64;
-    let mut v = 0usize;
-    while v < 32 {
-        n = n * 2 + counts[from + v] as u64;
-        v += 1;
+    let mut n = 0;
+    for &many in &counts[from..from + 32] {
+        n = n * 2 + u64::from(many);
     }
     n
 }
@@ -116,14 +101,5 @@ pub fn f64_bytes(x: f64) -> [u8; 8]
     requires { T (not (is_nan x)) }
     ensures { result ≡ digits 256 8 (to_bits binary64 x) }
 {
-    let n = f64::to_bits(x);
-    let b0 = (n % 256) as u8;
-    let b1 = ((n >> 8) % 256) as u8;
-    let b2 = ((n >> 16) % 256) as u8;
-    let b3 = ((n >> 24) % 256) as u8;
-    let b4 = ((n >> 32) % 256) as u8;
-    let b5 = ((n >> 40) % 256) as u8;
-    let b6 = ((n >> 48) % 256) as u8;
-    let b7 = ((n >> 56) % 256) as u8;
-    [b0, b1, b2, b3, b4, b5, b6, b7]
+    x.to_le_bytes()
 }

@@ -3,10 +3,11 @@ use mathlib.Core.Path.{◌≡◌, sym, ◌∙◌, ap, ap₂, fun_ext}
 use mathlib.Core.Bool.{Bool, true, false}
 use mathlib.Core.Logic.{◌⊎◌, inl, inr}
 use mathlib.Core.List.{List}
-use Prim.Native.Nat.{ℕ, zero, suc, max, ◌+◌, ◌-◌, ◌*◌, ◌/◌, ◌^◌, ◌≤◌, ◌<◌, zero-le}
+use Prim.Native.Nat.{ℕ, zero, suc, max, ◌+◌, ◌-◌, ◌*◌, ◌/◌, ◌%◌, ◌^◌, ◌≤◌, ◌<◌, zero-le}
 use native.Mathlib.Omega.{arith}
 use lib.Dec.{eqb, leb, ltb, lit<}
 use lib.ListN.{length, get_or}
+use lib.Pow.{pow_mono}
 use borrow.Author.Tests.{eq-eqb, ne_eqb, le-leb}
 use Rattle.model.specs.Pick.{pick, both, all}
 use Rattle.model.specs.Registers.{count_of}
@@ -24,6 +25,10 @@ use Rattle.survey_six.proofs.Shapes.{groups, zeros_of}
 use Rattle.survey_whole.specs.Whole.{Width, Cells, plain, most}
 use Rattle.survey_whole.proofs.Counted.{by_width}
 use Rattle.survey.specs.Survey.{Surveyable}
+
+-- ---- the shift is the power
+pub power : (lgk : ℕ) → lgk ≤ 21 → 1 * 2 ^ lgk % 4294967296 ≡ 2 ^ lgk
+power lgk h = omega (arith, pow_mono h)
 
 -- ---- the largest is within a bound where all are
 most_all : (f : ℕ → ℕ) (n b : ℕ) → leb (most f n) b ≡ all (λ i. leb (f i) b) n

@@ -20,37 +20,25 @@ pub struct Seen {
 }
 
 // The record alone. It is judged first: what is said of cells relies on cur_min.
+#[tactic(auto, using(crate::proofs::Cells::power), unfolding(model::specs::Check::counts_fit))]
 pub fn counts_fit(s: Sketch) -> bool
     requires { s.lg_k ≤ 21 }
     ensures { result ≡ counts_fit s }
 {
     let k = 1u32 << s.lg_k;
-    if k < s.num_at_cur_min {
-        return false;
-    }
-    if k < s.aux_count {
-        return false;
-    }
-    if s.kind == 4 {
-        return s.cur_min <= 63;
-    }
-    if s.cur_min != 0 {
-        return false;
-    }
-    s.aux_count == 0
+    let kind_fits = if s.kind == 4 {
+        s.cur_min <= 63
+    } else {
+        s.cur_min == 0 && s.aux_count == 0
+    };
+    s.num_at_cur_min <= k && s.aux_count <= k && kind_fits
 }
 
 // The number of cells that are 0 is the record's, and for kind 4 there is one.
 fn tally_fits(s: Sketch, zeros: u32) -> bool
     ensures { result ≡ both (eqb s.num_at_cur_min zeros) (pick (eqb s.kind 4) (ltb 0 s.num_at_cur_min) true) }
 {
-    if s.num_at_cur_min != zeros {
-        return false;
-    }
-    if s.kind != 4 {
-        return true;
-    }
-    0 < s.num_at_cur_min
+    s.num_at_cur_min == zeros && (s.kind != 4 || 0 < s.num_at_cur_min)
 }
 
 // Six bits are never past 63, so the values need no look; the spare byte does.
@@ -67,15 +55,16 @@ fn six(s: Sketch, regs: &[u8]) -> Seen
     }
 }
 
-// Kind 4's nibbles of 15.
+// Kind 4's nibbles of 15. No Option: `Surveyed` promises nothing of the field for other kinds, and both callers read it for kind 4 alone, so a None would be a case that never comes.
 fn tokens(kind: u8, regs: &[u8]) -> u32
     requires { length regs.now ≤ 2 ^ 21 }
     ensures { kind ≡ 4 → result ≡ count_of 15 (unpacked 4 (2 * length regs.now) regs.now) }
 {
-    if kind != 4 {
-        return 0;
+    if kind == 4 {
+        survey_whole::count(4, regs, 15)
+    } else {
+        0
     }
-    survey_whole::count(4, regs, 15)
 }
 
 // A pass for each question and not one for all: each is then so simple that it goes sixteen bytes at a time.

@@ -1,19 +1,30 @@
 -- Zeros counted byte after byte. Assumes nothing.
-use mathlib.Core.Path.{◌≡◌, refl, sym, ◌∙◌, ap, subst}
-use mathlib.Core.List.{List}
+use mathlib.Core.Path.{◌≡◌, refl, sym, ◌∙◌, ap, ap₂, subst}
+use mathlib.Core.List.{List, [], ◌∷◌}
 use Prim.Native.Nat.{ℕ, zero, suc, ◌+◌, ◌-◌, ◌*◌, ◌/◌, ◌%◌, ◌^◌, ◌≤◌, ◌<◌}
 use native.Mathlib.Omega.{arith}
 use native.Mathlib.Decide.{ℕ_discrete}
 use lib.Bits.{bit_and, and_mask}
 use lib.Dec.{eqb}
-use lib.ListN.{length, get_or, drop, drop_of_length-le}
+use lib.ListN.{length, get_or, take, drop, length-take, length-drop, drop_of_length-le}
+use lib.Seq.{get_or-take, get_or-drop}
+use Rattle.std.proofs.lemmas.List.{take-append-drop}
 use borrow.Author.Tests.{eq-eqb, ne_eqb}
 use Rattle.model.specs.Pick.{pick}
 use Rattle.model.specs.Registers.{count_of}
-use Rattle.model.specs.Packed.{Bytes, unpacked}
-use Rattle.model.proofs.packing.Packing.{length_unpacked, get_or_unpacked, slot_window, window_two}
-use Rattle.model.proofs.registers.Lowest.{count_le, count_next}
-use Rattle.survey_six.specs.Six.{Flag, Both, Groups, left, begins_at}
+use Rattle.model.specs.Packed.{Bytes, slot_at, unpacked}
+use Rattle.model.proofs.packing.ByteLists.{bytes_take, bytes_drop}
+use Rattle.model.proofs.packing.Packing.{Filled, filled_all, length_unpacked, get_or_unpacked, slot_window, window, window_two}
+use Rattle.model.proofs.registers.Lowest.{count_le, count_next, count_append}
+use Rattle.survey_six.specs.Six.{Flag, Both, Groups}
+
+-- where the last cell of a byte begins, by the byte's place in its group of three
+abbrev pub begins_at : ℕ → ℕ
+begins_at p = get_or (64 ∷ 16 ∷ 4 ∷ []) p 0
+
+-- how many cells that begin in byte n or after it are zero: n + (n + 2) / 3 begin before
+unfoldable pub left : List ℕ → ℕ → ℕ
+left regs n = count_of 0 (drop (n + (n + 2) / 3) (unpacked 6 ((length regs - 1) / 3 * 4) regs))
 
 abbrev pub cells : List ℕ → List ℕ
 cells regs = unpacked 6 ((length regs - 1) / 3 * 4) regs
@@ -108,3 +119,67 @@ begins_most begins zero l e = omega arith
 begins_most begins (suc zero) l e = omega arith
 begins_most begins (suc (suc zero)) l e = omega arith
 begins_most begins (suc (suc (suc p))) l e = absurd (omega arith)
+
+-- ---- the bytes up to byte 3 * t, one more, and those from there on
+
+-- a cell is told by its two bytes, wherever they lie
+same_slot : (xs ys : List ℕ) → Bytes xs → Bytes ys → (d i s : ℕ) → 6 * s ≡ 6 * i + 8 * d → get_or ys (6 * i / 8) 0 ≡ get_or xs (6 * i / 8 + d) 0 → get_or ys (6 * i / 8 + 1) 0 ≡ get_or xs (6 * i / 8 + d + 1) 0 → slot_at 6 ys i ≡ slot_at 6 xs s
+same_slot xs ys hx hy d i s e low high =
+    let j = 6 * i / 8 in
+    let r = 6 * i % 8 in
+    let same : window 2 ys j ≡ window 2 xs (j + d) = omega (arith, low, high, window_two ys j, window_two xs (j + d)) in
+    slot_window 6 i 2 j r ys hy (omega arith) (omega arith) ∙ ap (λ (w : ℕ). w / 2 ^ r % 2 ^ 6) same ∙ sym (slot_window 6 s 2 (j + d) r xs hx (omega arith) (omega arith))
+
+module _ (regs : List ℕ) (g : Groups regs) (bytes : Bytes regs) (t : ℕ) (l : 3 * t < length regs) where
+  abbrev begin : List ℕ
+  begin = take (3 * t + 1) regs
+
+  abbrev others : List ℕ
+  others = drop (3 * t) regs
+
+  long : length (cells regs) ≡ (length regs - 1) / 3 * 4
+  long = length_unpacked 6 ((length regs - 1) / 3 * 4) regs
+
+  long_begin : length begin ≡ 3 * t + 1
+  long_begin = omega (arith, length-take (3 * t + 1) regs)
+
+  long_others : length others ≡ length regs - 3 * t
+  long_others = length-drop (3 * t) regs
+
+  few_begin : (length begin - 1) / 3 * 4 ≡ 4 * t
+  few_begin = omega (arith, long_begin)
+
+  few_others : (length others - 1) / 3 * 4 ≡ (length regs - 1) / 3 * 4 - 4 * t
+  few_others = omega (arith, long_others, g.threes)
+
+  begin_cells : take (4 * t) (cells regs) ≡ cells begin
+  begin_cells =
+      filled_all 6 (4 * t) begin (take (4 * t) (cells regs)) (omega (arith, length-take (4 * t) (cells regs), long, g.threes)) at
+      ∙ ap (λ (k : ℕ). unpacked 6 k begin) (sym few_begin)
+    where
+      at : Filled (slot_at 6 begin) (take (4 * t) (cells regs)) (4 * t)
+      at i h =
+          let j = 6 * i / 8 in
+          get_or-take (4 * t) (cells regs) i 0 h
+          ∙ get_or_unpacked 6 ((length regs - 1) / 3 * 4) regs i (omega (arith, g.threes))
+          ∙ sym (same_slot regs begin bytes (bytes_take (3 * t + 1) regs bytes) 0 i i (omega arith)
+          (get_or-take (3 * t + 1) regs j 0 (omega arith) ∙ ap (λ (j : ℕ). get_or regs j 0) (omega arith))
+          (get_or-take (3 * t + 1) regs (j + 1) 0 (omega arith) ∙ ap (λ (j : ℕ). get_or regs j 0) (omega arith)))
+
+  other_cells : drop (4 * t) (cells regs) ≡ cells others
+  other_cells =
+      filled_all 6 ((length regs - 1) / 3 * 4 - 4 * t) others (drop (4 * t) (cells regs)) (omega (arith, length-drop (4 * t) (cells regs), long)) at
+      ∙ ap (λ (k : ℕ). unpacked 6 k others) (sym few_others)
+    where
+      at : Filled (slot_at 6 others) (drop (4 * t) (cells regs)) ((length regs - 1) / 3 * 4 - 4 * t)
+      at i h =
+          let j = 6 * i / 8 in
+          get_or-drop (4 * t) (cells regs) i 0
+          ∙ get_or_unpacked 6 ((length regs - 1) / 3 * 4) regs (4 * t + i) (omega arith)
+          ∙ sym (same_slot regs others bytes (bytes_drop (3 * t) regs bytes) (3 * t) i (4 * t + i) (omega arith)
+          (get_or-drop (3 * t) regs j 0 ∙ ap (λ (j : ℕ). get_or regs j 0) (omega arith))
+          (get_or-drop (3 * t) regs (j + 1) 0 ∙ ap (λ (j : ℕ). get_or regs j 0) (omega arith)))
+
+  pub count_parts : count_of 0 (cells begin) + count_of 0 (cells others) ≡ count_of 0 (cells regs)
+  count_parts =
+      sym (ap (count_of 0) (sym (take-append-drop (4 * t) (cells regs))) ∙ count_append 0 (take (4 * t) (cells regs)) (drop (4 * t) (cells regs)) ∙ ap₂ (λ (xs ys : List ℕ). count_of 0 xs + count_of 0 ys) begin_cells other_cells)

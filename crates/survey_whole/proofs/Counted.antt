@@ -1,20 +1,25 @@
 -- Cells counted byte after byte, and the largest, over the width. Assumes nothing.
-use mathlib.Core.Path.{◌≡◌, sym, ◌∙◌, subst}
+use mathlib.Core.Path.{◌≡◌, sym, ◌∙◌, ap, subst}
+use mathlib.Core.Bool.{Bool, true, false}
 use mathlib.Core.Logic.{⊎_elim}
-use mathlib.Core.List.{List}
-use Prim.Native.Nat.{ℕ, max, ◌+◌, ◌*◌, ◌/◌, ◌%◌, ◌^◌, ◌≤◌, ◌<◌}
+use mathlib.Core.List.{List, [], ◌∷◌}
+use Prim.Native.Nat.{ℕ, zero, suc, max, ◌+◌, ◌*◌, ◌/◌, ◌%◌, ◌^◌, ◌≤◌, ◌<◌}
 use native.Mathlib.Nat.{mul-zero}
 use native.Mathlib.Numerals.{add-one}
 use native.Mathlib.Omega.{arith}
 use lib.Dec.{eqb}
-use lib.ListN.{length, get_or, drop, drop_of_length-le}
+use lib.ListN.{length, get_or, take, drop}
+use Rattle.std.specs.List.{sum_by}
+use Rattle.std.specs.Simd.{first_chunks}
+use Rattle.std.proofs.lemmas.List.{drop-drop}
+use Rattle.std.proofs.lemmas.List.Sums.{sum_by-cons, sum_by-take-drop}
 use Rattle.model.specs.Pick.{pick}
 use Rattle.model.specs.Registers.{count_of}
-use Rattle.model.specs.Packed.{Bytes, unpacked}
-use Rattle.model.proofs.packing.Packing.{length_unpacked, get_or_unpacked}
-use Rattle.model.proofs.registers.Lowest.{count_le, count_next}
+use Rattle.model.specs.Packed.{Bytes, number, digits, unpacked}
+use Rattle.model.proofs.packing.ByteLists.{bytes_take, bytes_drop}
+use Rattle.model.proofs.packing.Packing.{get_or_unpacked}
 use Rattle.packed.proofs.Cells.{get_one}
-use Rattle.survey_whole.specs.Whole.{Width, Hits, plain, highest, most, left}
+use Rattle.survey_whole.specs.Whole.{Width, plain, highest, most}
 
 -- the cells of bytes, and the largest of the first n
 abbrev pub cells : ℕ → List ℕ → List ℕ
@@ -27,35 +32,86 @@ top w regs = most (λ i. plain w (get_or (cells w regs) i 0))
 pub by_width : (P : ℕ → Type 0) → P 4 → P 8 → {w : ℕ} → Width w → P w
 by_width P four eight width = ⊎_elim (λ e. subst P (sym e) four) (λ e. subst P (sym e) eight) width.is
 
--- ---- the ends
-pub left_all : (w v : ℕ) (regs : List ℕ) → left w v regs 0 ≡ count_of v (cells w regs)
-unfolding left
-left_all w v regs = rw (mul-zero (8 / w))
+-- ---- cells that are v
 
-pub left_none : (w v : ℕ) (regs : List ℕ) → left w v regs (length regs) ≡ 0
-unfolding left count_of
-left_none w v regs =
-    let h : length (cells w regs) ≤ 8 / w * length regs = omega (arith, length_unpacked w (8 / w * length regs) regs) in
-    rw (drop_of_length-le (cells w regs) h)
+-- of a byte
+abbrev pub hit : ℕ → ℕ → ℕ → ℕ
+hit w v byte = pick (eqb w 8) (pick (eqb byte v) 1 0) (pick (eqb (byte % 16) v) 1 0 + pick (eqb (byte / 16) v) 1 0)
 
-pub left_few : {w : ℕ} → Width w → (v : ℕ) (regs : List ℕ) → left w v regs 0 ≤ 2 * length regs
-left_few width v regs = by_width (λ w. left w v regs 0 ≤ 2 * length regs) (few 4 (omega arith)) (few 8 (omega arith)) width
+pub hit_most : (w v byte : ℕ) → hit w v byte ≤ 2
+hit_most w v byte = go (eqb w 8) (eqb byte v) (eqb (byte % 16) v) (eqb (byte / 16) v)
   where
-    few : (w : ℕ) → 8 / w * length regs ≤ 2 * length regs → left w v regs 0 ≤ 2 * length regs
-    few w h = omega (arith, left_all w v regs, count_le v (cells w regs), length_unpacked w (8 / w * length regs) regs)
+    one : (b : Bool) → pick b 1 0 ≤ 1
+    one true = omega arith
+    one false = omega arith
 
+    go : (wide b low high : Bool) → pick wide (pick b 1 0) (pick low 1 0 + pick high 1 0) ≤ 2
+    go true b low high = omega (arith, one b)
+    go false b low high = omega (arith, one low, one high)
+
+pub hits_few : (w v : ℕ) (regs : List ℕ) → sum_by (hit w v) regs ≤ 2 * length regs
+hits_few w v [] = omega arith
+hits_few w v (b ∷ bs) = omega (arith, sum_by-cons (hit w v) b bs, hit_most w v b, hits_few w v bs)
+
+one_more : (b : Bool) (r : ℕ) → pick b (suc r) r ≡ pick b 1 0 + r
+one_more true r = omega arith
+one_more false r = omega arith
+
+-- the cells of a byte and of those after it
+two_cells : (b : ℕ) (bs : List ℕ) → b < 256 → cells 4 (b ∷ bs) ≡ b % 16 ∷ (b / 16 ∷ cells 4 bs)
+unfolding unpacked digits number
+two_cells b bs l =
+    let n = number 256 bs in
+    let long : 2 * suc (length bs) ≡ suc (suc (2 * length bs)) = omega arith in
+    let low : (n * 256 + b) % 16 ≡ b % 16 = omega arith in
+    let high : (n * 256 + b) / 16 % 16 ≡ b / 16 = omega arith in
+    let others : (n * 256 + b) / 16 / 16 ≡ n = omega arith in
+    rw (long, low, high, others)
+
+one_cell : (b : ℕ) (bs : List ℕ) → b < 256 → cells 8 (b ∷ bs) ≡ b ∷ cells 8 bs
+unfolding unpacked digits number
+one_cell b bs l =
+    let n = number 256 bs in
+    let long : 1 * suc (length bs) ≡ suc (1 * length bs) = omega arith in
+    let low : (n * 256 + b) % 256 ≡ b = omega arith in
+    let others : (n * 256 + b) / 256 ≡ n = omega arith in
+    rw (long, low, others)
+
+count_cons : {w : ℕ} → Width w → (v b : ℕ) (bs : List ℕ) → b < 256 → count_of v (cells w (b ∷ bs)) ≡ hit w v b + count_of v (cells w bs)
+unfolding count_of
+count_cons width v b bs l =
+    by_width (λ w. count_of v (cells w (b ∷ bs)) ≡ hit w v b + count_of v (cells w bs))
+    (let r = count_of v (cells 4 bs) in
+    rw (two_cells b bs l) (omega (arith, one_more (eqb (b % 16) v) (pick (eqb (b / 16) v) (suc r) r), one_more (eqb (b / 16) v) r)))
+    (rw (one_cell b bs l) (one_more (eqb b v) (count_of v (cells 8 bs)))) width
+
+pub count_is : {w : ℕ} → Width w → (v : ℕ) (regs : List ℕ) → Bytes regs → count_of v (cells w regs) ≡ sum_by (hit w v) regs
+unfolding unpacked digits count_of
+count_is {w} width v [] bytes = rw (mul-zero (8 / w))
+count_is {w} width v (b ∷ bs) bytes =
+    count_cons width v b bs (bytes 0) ∙ ap (λ (n : ℕ). hit w v b + n) (count_is width v bs (λ i. bytes (suc i))) ∙ sym (sum_by-cons (hit w v) b bs)
+
+-- ---- a part of the bytes, and what is left after it
+-- m bytes from byte i on
+pub part_turn : {w : ℕ} → Width w → (v n m i : ℕ) (regs : List ℕ) → Bytes regs → n ≡ count_of v (cells w (take m (drop i regs))) → n + sum_by (hit w v) (drop (i + m) regs) ≡ sum_by (hit w v) (drop i regs)
+part_turn {w} width v n m i regs bytes e =
+    let all = drop i regs in
+    let part = count_is width v (take m all) (bytes_take m all (bytes_drop i regs bytes)) in
+    omega (arith, e, part, sum_by-take-drop (hit w v) all m, ap (sum_by (hit w v)) (drop-drop m i regs))
+
+pub chunk_at : (n k i : ℕ) (xs d : _) → i < k → get_or (first_chunks {X = ℕ} n k xs) i d ≡ take n (drop (n * i) xs)
+chunk_at n zero i xs d l = absurd (omega arith)
+chunk_at n (suc k) zero xs d l = rw (mul-zero n)
+chunk_at n (suc k) (suc i) xs d l =
+    let e : n + n * i ≡ n * suc i = omega arith in
+    chunk_at n k i (drop n xs) d (omega arith) ∙ ap (take n) (drop-drop (n * i) n xs ∙ ap (λ (j : ℕ). drop j xs) e)
+
+-- ---- the largest
 pub top_none : (w : ℕ) (regs : List ℕ) → 0 ≡ top w regs (8 / w * 0)
 unfolding most
 top_none w regs = rw (mul-zero (8 / w))
 
--- ---- one cell more, n
-abbrev mark : ℕ → ℕ → ℕ
-mark n v = pick (eqb n v) 1 0
-
 module _ (w : ℕ) (regs : List ℕ) (s n : ℕ) (is : n ≡ get_or (cells w regs) s 0) where
-  left_cell : (v : ℕ) → s < 8 / w * length regs → count_of v (drop s (cells w regs)) ≡ mark n v + count_of v (drop (s + 1) (cells w regs))
-  left_cell v l = rw is (count_next v (cells w regs) s (omega (arith, length_unpacked w (8 / w * length regs) regs)))
-
   top_cell : top w regs (s + 1) ≡ max (top w regs s) (plain w n)
   unfolding most
   top_cell = rw (add-one s, is)
@@ -80,13 +136,6 @@ module _ (regs : List ℕ) (bytes : Bytes regs) (j : ℕ) (l : j < length regs) 
 
   next_8 : 1 * (j + 1) ≡ 1 * j + 1
   next_8 = omega arith
-
-  pub left_turn : {w : ℕ} → Width w → (v x : ℕ) → Hits w (get_or regs j 0) v x → x + left w v regs (j + 1) ≡ left w v regs j
-  unfolding left
-  left_turn width v x =
-      by_width (λ w. Hits w (get_or regs j 0) v x → x + left w v regs (j + 1) ≡ left w v regs j)
-      (λ h. rw next_4 (omega (arith, h.is, left_cell 4 regs (2 * j) _ low_is v (omega arith), left_cell 4 regs (2 * j + 1) _ high_is v (omega arith))))
-      (λ h. rw next_8 (omega (arith, h.is, left_cell 8 regs (1 * j) _ byte_is v (omega arith)))) width
 
   pub top_turn : {w : ℕ} → Width w → (m x : ℕ) → m ≡ top w regs (8 / w * j) → x ≡ max m (highest w (get_or regs j 0)) → x ≡ top w regs (8 / w * (j + 1))
   top_turn width m x =

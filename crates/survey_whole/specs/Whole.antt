@@ -1,8 +1,6 @@
 -- What is counted of cells of 4 and of 8 bits.
-use Rattle.std.specs.Prelude.{◌≡◌, ◌⊎◌, List, ℕ, zero, suc, max, ◌+◌, ◌*◌, ◌/◌, ◌%◌, ◌^◌, ◌≤◌, eqb, length, drop}
+use Rattle.std.specs.Prelude.{◌≡◌, ◌⊎◌, List, ℕ, zero, suc, max, ◌+◌, ◌/◌, ◌%◌, ◌^◌, ◌≤◌, eqb, length}
 use Rattle.model.specs.Pick.{pick, both}
-use Rattle.model.specs.Registers.{count_of}
-use Rattle.model.specs.Packed.{unpacked}
 
 -- 4 or 8 bits
 pub record Width (w : ℕ) : Type 0 where
@@ -19,11 +17,9 @@ pub record Cells (w : ℕ) (regs : List ℕ) : Type 0 where
   pub few : length regs ≤ 2 ^ 21
 
 -- bytes whose cells a byte can count
-pub record Part (w from to : ℕ) (regs : List ℕ) : Type 0 where
+pub record Part (w : ℕ) (part : List ℕ) : Type 0 where
   pub width : Width w
-  pub order : from ≤ to
-  pub inside : to ≤ length regs
-  pub short : to ≤ from + 127
+  pub short : length part ≤ 127
 
 -- a cell that is no token, or 0: a nibble of 15 stands for an exception
 abbrev pub plain : ℕ → ℕ → ℕ
@@ -37,7 +33,3 @@ highest w byte = pick (eqb w 8) byte (max (plain 4 (byte % 16)) (plain 4 (byte /
 unfoldable pub most : (ℕ → ℕ) → ℕ → ℕ
 most f zero = 0
 most f (suc n) = max (most f n) (f n)
-
--- how many cells of byte n and after it are v
-unfoldable pub left : ℕ → ℕ → List ℕ → ℕ → ℕ
-left w v regs n = count_of v (drop (8 / w * n) (unpacked w (8 / w * length regs) regs))

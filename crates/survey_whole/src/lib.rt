@@ -2,56 +2,47 @@
 // value, and counters as narrow as the cells' bytes: so the compiler takes sixteen bytes at a time. (It takes the test of the width out of the loop.)
 #![tactic(auto)]
 
-ghost use Rattle.std.specs.Prelude.{◌≡◌, ◌+◌, ◌*◌, ◌/◌, length, get_or};
+ghost use Rattle.std.specs.Prelude.{◌≡◌, ◌*◌, ◌/◌, length, get_or};
 ghost use Rattle.model.specs.Registers.{count_of};
 ghost use Rattle.model.specs.Packed.{unpacked};
-ghost use Rattle.survey_whole.specs.Whole.{Hits, Cells, Part, plain, highest, most, left};
+ghost use Rattle.survey_whole.specs.Whole.{Hits, Cells, Part, plain, highest, most};
 
-use packed::eight::{larger, one_if};
+// So many bytes that a byte counts their cells.
+const PART: usize = 64;
 
 // How many cells of a byte are `is`.
 fn hits(width: u8, byte: u8, is: u8) -> u8
     ensures { Hits width byte is result }
 {
     if width == 8 {
-        return one_if(byte, is);
+        return u8::from(byte == is);
     }
-    one_if(byte % 16, is) + one_if(byte >> 4, is)
+    u8::from(byte % 16 == is) + u8::from(byte >> 4 == is)
 }
 
-// A part so short that a byte counts it.
-fn count_part(width: u8, regs: &[u8], from: usize, to: usize, is: u8) -> u8
-    requires { Part width from to regs.now }
-    ensures { result + left width is regs.now to ≡ left width is regs.now from }
+// The narrow counter is what makes vector code of it.
+fn count_part(width: u8, part: &[u8], is: u8) -> u8
+    requires { Part width part.now }
+    ensures { result ≡ count_of is (unpacked width (8 / width * length part.now) part.now) }
 {
-    let mut n: u8 = 0;
-    let mut at = from;
-    while at < to {
-        n += hits(width, regs[at], is);
-        at += 1;
+    let mut n = 0;
+    for &byte in part {
+        n += hits(width, byte, is);
     }
     n
 }
 
-fn wide(n: u8) -> u32
-    ensures { result ≡ n }
-{
-    n as u32
-}
-
-// How many cells are `is`.
+// How many cells are `is`. (survey_six counts parts that overlap by a byte: one function for both would be a closure for the parts and one for the count, around two lines.)
 pub fn count(width: u8, regs: &[u8], is: u8) -> u32
     requires { Cells width regs.now }
     ensures { result ≡ count_of is (unpacked width (8 / width * length regs.now) regs.now) }
 {
-    let mut n: u32 = 0;
-    let mut from: usize = 0;
-    while 64 <= regs.len() - from {
-        let to = from + 64;
-        n += wide(count_part(width, regs, from, to, is));
-        from = to;
+    let (parts, others) = regs.as_chunks::<PART>();
+    let mut n = 0;
+    for part in parts {
+        n += u32::from(count_part(width, part, is));
     }
-    n + wide(count_part(width, regs, from, regs.len(), is))
+    n + u32::from(count_part(width, others, is))
 }
 
 fn no_token(n: u8) -> u8
@@ -67,7 +58,7 @@ fn top(width: u8, byte: u8) -> u8
     if width == 8 {
         return byte;
     }
-    larger(no_token(byte % 16), no_token(byte >> 4))
+    no_token(byte % 16).max(no_token(byte >> 4))
 }
 
 // The largest cell that is no token, or 0.
@@ -75,11 +66,9 @@ pub fn largest(width: u8, regs: &[u8]) -> u8
     requires { Cells width regs.now }
     ensures { result ≡ most (λ i. plain width (get_or (unpacked width (8 / width * length regs.now) regs.now) i 0)) (8 / width * length regs.now) }
 {
-    let mut most: u8 = 0;
-    let mut at = 0;
-    while at < regs.len() {
-        most = larger(most, top(width, regs[at]));
-        at += 1;
+    let mut most = 0;
+    for &byte in regs {
+        most = top(width, byte).max(most);
     }
     most
 }

@@ -1,14 +1,14 @@
--- The laws of `stands_at`: it tells whether the bytes are the text and then the rest; and what a loop over both cites. Assumes nothing.
+-- The laws of `stands_at`: it tells whether the bytes are the text and then the rest; and it is std's test of a slice's front. Assumes nothing.
 use mathlib.Core.Path.{◌≡◌, refl, sym, ap, ap₂, ◌∙◌}
 use mathlib.Core.Bool.{Bool, true, false, ◌&&◌, false≢true}
 use mathlib.Core.List.{List, [], ◌∷◌, ◌++◌}
-use Prim.Native.Nat.{ℕ, ◌+◌, ◌<◌, ◌≤◌}
-use native.Mathlib.Nat.{add-suc, not-suc-le-zero, le_of_suc-le-suc}
-use native.Mathlib.Numerals.{add-one}
+use Prim.Native.Nat.{ℕ, ◌≤◌}
+use native.Mathlib.Decide.{ℕ_discrete}
 use lib.Dec.{eqb, eqb-suc-zero}
-use lib.ListN.{length, get_or, drop, drop_of_length-le}
-use lib.Seq.{drop-cons}
+use lib.ListN.{length, take, drop, length-drop, drop_of_length-le}
+use lib.Seq.{take-length}
 use borrow.Author.Tests.{eqb-true, eq-eqb, ne_eqb}
+use Rattle.std.specs.List.{starts_with, slice_range}
 use Rattle.text.specs.Text.{stands_at}
 
 pub stands_front : (p l : List ℕ) → stands_at p l ≡ true → l ≡ p ++ drop (length p) l
@@ -29,35 +29,26 @@ stands_before (c ∷ p) l = ap₂ ◌&&◌ (eq-eqb c c refl) (stands_before p l)
 pub front_stands : (p l : List ℕ) → l ≡ p ++ drop (length p) l → stands_at p l ≡ true
 front_stands p l e = ap (stands_at p) e ∙ stands_before p (drop (length p) l)
 
--- bytes that are too few
-pub stands_short : (p l : List ℕ) → length l < length p → stands_at p l ≡ false
-unfolding stands_at
-stands_short [] l h = absurd (not-suc-le-zero h)
-stands_short (c ∷ p) [] h = refl
-stands_short (c ∷ p) (x ∷ l) h = ap (λ (b : Bool). eqb x c && b) (stands_short p l (le_of_suc-le-suc h)) ∙ none (eqb x c)
-  where
-    none : (b : Bool) → b && false ≡ false
-    none true = refl
-    none false = refl
-
 -- no bytes
 pub stands_past : (p s : List ℕ) (at : ℕ) → length s ≤ at → stands_at p (drop at s) ≡ eqb (length p) 0
 unfolding stands_at
 stands_past [] s at h = refl
 stands_past (c ∷ p) s at h = rw (drop_of_length-le s h) (sym (eqb-suc-zero (length p)))
 
--- one turn of a loop over both
-module _ (s p : List ℕ) (at i : ℕ) (hs : at + i < length s) (hp : i < length p) where
-  turn : stands_at (drop i p) (drop (at + i) s) ≡ eqb (get_or s (at + i) 0) (get_or p i 0) && stands_at (drop (i + 1) p) (drop (at + (i + 1)) s)
-  unfolding stands_at
-  turn = rw (add-one i, add-suc at i, drop-cons p i 0 hp, drop-cons s (at + i) 0 hs)
+-- std's test of a slice's front is the book's
+eqb_turned : (m n : ℕ) → eqb m n ≡ eqb n m
+eqb_turned m n = go (ℕ_discrete m n)
+  where
+    go : Dec (m ≡ n) → eqb m n ≡ eqb n m
+    go (yes e) = ap₂ eqb e (sym e)
+    go (no h) = ne_eqb m n h ∙ sym (ne_eqb n m (λ e. h (sym e)))
 
-  pub stands_on : get_or s (at + i) 0 ≡ get_or p i 0 → stands_at (drop i p) (drop (at + i) s) ≡ stands_at (drop (i + 1) p) (drop (at + (i + 1)) s)
-  stands_on e = turn ∙ ap (λ (b : Bool). b && stands_at (drop (i + 1) p) (drop (at + (i + 1)) s)) (eq-eqb _ _ e)
-
-  pub stands_off : (get_or s (at + i) 0 ≡ get_or p i 0 → ⊥) → stands_at (drop i p) (drop (at + i) s) ≡ false
-  stands_off n = turn ∙ ap (λ (b : Bool). b && stands_at (drop (i + 1) p) (drop (at + (i + 1)) s)) (ne_eqb _ _ n)
-
-pub stands_end : (p l : List ℕ) (i : ℕ) → length p ≤ i → stands_at (drop i p) l ≡ true
+pub stands_starts : (p l : List ℕ) → starts_with eqb l p ≡ stands_at p l
 unfolding stands_at
-stands_end p l i h = rw (drop_of_length-le p h)
+stands_starts [] l = refl
+stands_starts (c ∷ p) [] = refl
+stands_starts (c ∷ p) (x ∷ l) = ap₂ ◌&&◌ (eqb_turned c x) (stands_starts p l)
+
+-- the bytes from a place on, as a slice lends them
+pub rest_of : (s : List ℕ) (at : ℕ) → slice_range s at (length s) ≡ drop at s
+rest_of s at = ap (λ (n : ℕ). take n (drop at s)) (sym (length-drop at s)) ∙ take-length (drop at s)

@@ -1,8 +1,7 @@
--- Texts as bytes: a literal, a number's decimal digits, a text at the front of bytes, and texts written one behind the other.
+-- Texts as bytes: a literal, a number's decimal digits, and a text at the front of bytes.
 use Prim.Native.Char.{code}
 use Prim.Native.String.{String, [] as none, ◌∷◌ as ◌then◌}
-use Rattle.std.specs.Prelude.{ℕ, zero, suc, ◌+◌, ◌/◌, ◌%◌, ◌≡◌, Bool, true, false, ◌&&◌, List, [], ◌∷◌, ◌++◌, eqb, ltb, length, take}
-use Rattle.io.specs.Counts.{IsPrefixLen}
+use Rattle.std.specs.Prelude.{ℕ, zero, suc, ◌+◌, ◌/◌, ◌%◌, Bool, true, false, ◌&&◌, List, [], ◌∷◌, ◌++◌, eqb, ltb}
 
 -- a literal's bytes
 abbrev pub text : String → List ℕ
@@ -28,13 +27,3 @@ unfoldable pub stands_at : List ℕ → List ℕ → Bool
 stands_at [] l = true
 stands_at (c ∷ p) [] = false
 stands_at (c ∷ p) (x ∷ l) = eqb x c && stands_at p l
-
--- s written at a place: what stood before it stands there still, then s, which ends at r
-pub record Written (old : List ℕ) (at : ℕ) (s new : List ℕ) (r : ℕ) : Type 0 where
-  pub end : r ≡ at + length s
-  pub front : take r new ≡ take at old ++ s
-
--- the first r bytes of l, which may be lent as `&l[..r]`, are t
-pub record Holds (l : List ℕ) (r : ℕ) (t : List ℕ) : Type 0 where
-  pub counts : IsPrefixLen r l
-  pub bytes : take r l ≡ t

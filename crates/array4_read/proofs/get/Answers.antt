@@ -1,16 +1,15 @@
 -- `get` meets its contract: a nibble below 15 is the register above cur_min, and the table has the others. Assumes nothing.
-use mathlib.Core.Path.{◌≡◌, sym, ◌∙◌}
-use Prim.Native.Nat.{ℕ}
+use mathlib.Core.Path.{◌≡◌, ◌∙◌}
 use native.Mathlib.Omega.{arith}
 use lib.ListN.{get_or}
 use Rattle.model.specs.Sketch.{registers}
-use Rattle.aux_map.specs.declared.Got.TheVariants.{Value}
+use Rattle.std.specs.Prelude.{Some}
 use Rattle.array4_read.proofs.Held as held
 use Rattle.array4_read.proofs.get.Goals as goal
 use Rattle.array4_read.proofs.get.Goals.{After-get}
 
--- what the search yields, in either arm
-yields : (c : After-get) → c.get.result ≡ Value (get_or (registers c.args.s c.args.regs.now c.args.aux.now) c.args.slot 0)
+-- what the search yields
+yields : (c : After-get) → c.get.result ≡ Some (get_or (registers c.args.s c.args.regs.now c.args.aux.now) c.args.slot 0)
 yields c =
     c.get.ensures ∙ held.high_get _ _ _ c.requires.four c.requires.good _ _ c.requires.inside c.get_raw-raw.ensures c.if-raw-lt15.false _ c.table_len-size.ensures
 
@@ -38,12 +37,5 @@ pub get-requires : goal.get-requires
 get-requires c =
     held.room _ _ _ c.requires.four c.requires.good _ _ c.requires.inside c.get_raw-raw.ensures c.if-raw-lt15.false _ c.table_len-size.ensures
 
-pub returns-in-Value : goal.returns-in-Value
-returns-in-Value c =
-    let told = sym c.in-Value.is ∙ (yields (goal.at.returns-in-Value c).After-get) in cc
-
-pub returns-in-Missing : goal.returns-in-Missing
-returns-in-Missing c =
-    let told = sym c.in-Missing.is ∙ (yields (goal.at.returns-in-Missing c).After-get) in
-    let z : ◌≡◌ {A = ℕ} 0 1 = cc in
-    absurd (omega arith)
+pub returns : goal.returns
+returns c = let told = yields (goal.at.returns c).After-get in cc

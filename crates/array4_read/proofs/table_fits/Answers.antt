@@ -21,10 +21,6 @@ pub returns-then-not-check : goal.returns-then-not-check
 returns-then-not-check c =
     passing.refused _ _ c.requires _ (λ t. c.check.ensures.1 c.if-not-check.true (rw c.base_for-base.ensures (passing.asks_ordered _ _ c.requires _ t)))
 
-pub slice_bounds-words_fit-end : goal.slice_bounds-words_fit-end
-slice_bounds-words_fit-end c =
-    passing.part _ _ c.requires _ (ordered (goal.at.slice_bounds-words_fit-end c).Else-not-check) _ c.table_len-size.ensures
-
 pub words_fit-requires : goal.words_fit-requires
 words_fit-requires c = passing.few _ _ c.requires
 

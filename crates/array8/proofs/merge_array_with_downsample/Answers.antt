@@ -1,27 +1,28 @@
--- `array8::merge_array_with_downsample` meets its contract. What is left to pour in are the source's registers from `src_slot` on. Assumes nothing.
+-- `array8::merge_array_with_downsample` meets its contract: each part of the source is as long as the target, and meets its registers from the first one on. Assumes nothing.
+use mathlib.Core.Path.{sym, ◌∙◌}
 use native.Mathlib.Omega.{arith}
-use lib.ListN.{length-set}
-use Rattle.array8.proofs.Masks.{power_some, index_mask, mask_in}
-use Rattle.model.proofs.registers.Turns.{poured_turn, poured_end, larger_raises}
+use Rattle.array8.proofs.Masks.{power_some}
+use Rattle.array8.proofs.Windows.{parted_first, parted_turn, parted_end}
 use Rattle.array8.proofs.merge_array_with_downsample.Goals as goal
 
-pub overflow_sub-dst_mask : goal.overflow_sub-dst_mask
-overflow_sub-dst_mask c = omega (arith, power_some c.requires.target, c.requires.most)
+pub chunks_exact-part-items-requires : goal.chunks_exact-part-items-requires
+chunks_exact-part-items-requires c = power_some c.requires.target
 
-pub bounds-target-dst_slot : goal.bounds-target-dst_slot
-bounds-target-dst_slot c =
-    let loop = c.loop-src_slot in
-    rw loop.invariant.0 (mask_in c.requires.target loop.src_slot)
+pub loop-part-init : goal.loop-part-init
+loop-part-init c =
+    rw (c.into_iter-part-iterator.ensures.into_iter_gives, c.chunks_exact-part-items.ensures.rest) (c.chunks_exact-part-items.ensures.size, parted_first _ _ c.requires)
 
-pub bounds-target-dst_slot-in-loop-src_slot : goal.bounds-target-dst_slot-in-loop-src_slot
-bounds-target-dst_slot-in-loop-src_slot c =
-    let loop = c.loop-src_slot in
-    rw loop.invariant.0 (mask_in c.requires.target loop.src_slot)
+pub merge_array_same_lgk-requires : goal.merge_array_same_lgk-requires
+merge_array_same_lgk-requires c =
+    c.loop-part.invariant.1.size ∙ sym (c.in-Some.ensures.steps.1.1 ∙ c.loop-part.invariant.0)
 
-pub loop-src_slot-preserved : goal.loop-src_slot-preserved
-loop-src_slot-preserved c =
-    let loop = c.loop-src_slot in
-    (simp length-set loop.invariant.0, poured_turn _ loop.target _ _ _ loop.src_slot (omega arith) (larger_raises loop.target _ _ _ _ (index_mask c.requires.target loop.src_slot) c.larger.ensures) loop.invariant.1)
+pub loop-part-preserved : goal.loop-part-preserved
+loop-part-preserved c =
+    let step = c.in-Some.ensures.steps in
+    let loop = c.loop-part.invariant in
+    (step.0 ∙ loop.0, parted_turn _ loop.1 step.1.0 (step.1.1 ∙ loop.0) c.merge_array_same_lgk.auto.target c.merge_array_same_lgk.ensures)
 
 pub returns : goal.returns
-returns c = poured_end _ c.loop-src_slot.target _ _ _ c.loop-src_slot-test.false c.loop-src_slot.invariant.1
+returns c =
+    let step = c.in-None.ensures.steps in
+    parted_end c.loop-part.invariant.1 (omega (arith, step.1.0, c.loop-part.invariant.0))

@@ -1,11 +1,11 @@
 use mathlib.Core.Path.{◌≡◌}
-use Prim.Native.Nat.{◌-◌}
-use lib.ListN.{length, drop}
-use Rattle.model.specs.Registers.{poured, joined}
+use lib.ListN.{length}
+use Rattle.std.specs.Slice.Iter.{chunks_exact_rest, chunks_exact_size}
+use Rattle.model.specs.Registers.{joined}
+use Rattle.array8.proofs.Windows.{Parted}
 use Rattle.array8.proofs.merge_array_with_downsample.Given as goal
 
-abbrev pub invariant-loop-src_slot : goal.invariant-loop-src_slot
-invariant-loop-src_slot l = (length l.target ≡ length l.initial.target) × (poured (length l.initial.target) l.target l.src_slot (drop l.src_slot l.src) ≡ joined (length l.initial.target) l.initial.target l.src)
-
-abbrev pub decreases-loop-src_slot : goal.decreases-loop-src_slot
-decreases-loop-src_slot l = length l.src - l.src_slot
+abbrev pub invariant-loop-part : goal.invariant-loop-part
+invariant-loop-part l =
+    let k = length l.initial.target in
+    (chunks_exact_size l.part-iterator ≡ k) × Parted k l.target (chunks_exact_rest l.part-iterator) (joined k l.initial.target l.src)

@@ -1,34 +1,35 @@
 -- `aux_map::get` meets its contract: the answer of `find` picks its own. Assumes nothing.
-use Rattle.aux_map.proofs.Answers.{found_lt, gets_found, gets_empty}
-use Prim.Native.Nat.{◌<◌}
 use mathlib.Core.Path.{◌≡◌, sym, ◌∙◌}
+use Prim.Native.Nat.{ℕ}
 use native.Mathlib.Omega.{arith}
-use lib.ListN.{length}
-use Rattle.aux_map.specs.declared.FindResult.TheVariants.{Found}
-use Rattle.aux_map.specs.Search.{finds}
+use Rattle.std.specs.Prelude.{List, Result, Ok, Err, Some, None}
+use Rattle.std.specs.Result.{result_ok}
+use Rattle.aux_map.specs.Search.{finds, gets}
+use Rattle.aux_map.proofs.Answers.{found_lt, gets_found, gets_empty}
 use Rattle.aux_map.proofs.get.Goals as goal
-use Rattle.aux_map.proofs.get.Goals.{In-Found}
+use Rattle.aux_map.proofs.get.Goals.{In_ok-at}
 
--- the answer, in its arm
-found : (c : In-Found) → finds c.args.table.now c.args.slot ≡ Found c.in-Found.at
-found c =
-    sym c.find.ensures ∙ c.in-Found.is
+-- what an answer was, by what `ok` makes of it
+was_found : (r : Result ℕ ℕ) (i : ℕ) → result_ok r ≡ Some i → r ≡ Ok i
+was_found (Ok x) i e = cc
+was_found (Err x) i e = cc
 
-inside : (c : In-Found) → c.in-Found.at < length c.args.table.now
-inside c =
-    found_lt c.args.table.now c.args.slot _ c.requires (found c)
+none_for : (t : List ℕ) (s : ℕ) (r : Result ℕ ℕ) → r ≡ finds t s → result_ok r ≡ None → None ≡ gets t s
+none_for t s (Ok x) f e = cc
+none_for t s (Err x) f e = gets_empty t s x (sym f)
+
+found : (c : In_ok-at) → finds c.args.table.now c.args.slot ≡ Ok c.in_ok-at.at
+found c = sym c.find.ensures ∙ was_found _ _ (sym c.ok.ensures.value ∙ c.in_ok-at.was)
+
+pub returns-in_err-at : goal.returns-in_err-at
+returns-in_err-at c =
+    c.from_residual.ensures ∙ none_for _ _ _ c.find.ensures (sym c.ok.ensures.value ∙ c.in_err-at.was)
 
 pub offset_bounds-table-at : goal.offset_bounds-table-at
-offset_bounds-table-at c =
-    omega (arith, inside c)
+offset_bounds-table-at c = omega (arith, found_lt _ _ _ c.requires (found c))
 
 pub bounds-table-at : goal.bounds-table-at
-bounds-table-at c =
-    inside (goal.at.bounds-table-at c).In-Found
+bounds-table-at c = found_lt _ _ _ c.requires (found (goal.at.bounds-table-at c).In_ok-at)
 
-pub returns-in-Found : goal.returns-in-Found
-returns-in-Found c =
-    gets_found _ _ _ _ c.value.ensures (found (goal.at.returns-in-Found c).In-Found)
-
-pub returns-in-Empty : goal.returns-in-Empty
-returns-in-Empty c = gets_empty _ _ _ (sym c.find.ensures ∙ c.in-Empty.is)
+pub returns : goal.returns
+returns c = gets_found _ _ _ _ c.value.ensures (found (goal.at.returns c).In_ok-at)

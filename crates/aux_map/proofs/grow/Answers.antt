@@ -6,6 +6,7 @@ use Prim.Native.Nat.{ℕ, ◌+◌, ◌<◌}
 use native.Mathlib.Omega.{arith}
 use lib.ListN.{length, take, replicate}
 use lib.Seq.{take-length}
+use Rattle.std.proofs.Common.{rules}
 use Rattle.model.specs.Table.{Room, place, refill, grown}
 use Rattle.model.proofs.table.Search.{place_lt}
 use Rattle.model.proofs.table.Refill.{part_length, part_room, part_put, part_skip}
@@ -20,35 +21,33 @@ room t into₀ into i d e h = subst Room (sym e) (part_room t d.lg i d.size h)
 inside : (t into₀ into : List ℕ) (i s p : ℕ) → Doubled t into₀ → into ≡ refill (replicate (length t + length t) 0) (take i t) → i < length t → p ≡ place into s → p < length into
 inside t into₀ into i s p d e h q = subst (λ (x : ℕ). x < length into) (sym q) (place_lt into s (room t into₀ into i d e h))
 
-pub loop-i-init : goal.loop-i-init
+pub loop-w-init : goal.loop-w-init
 unfolding refill
-loop-i-init c = (omega arith, c.clear.ensures ∙ ap (λ (n : ℕ). replicate n 0) c.requires.twice)
+loop-w-init c =
+    let cleared : c.fill.new.self ≡ replicate (length c.args.into.now) 0 = search rules in cleared ∙ ap (λ (n : ℕ). replicate n 0) c.requires.twice
 
 pub probe-at-requires : goal.probe-at-requires
-probe-at-requires c = room c.args.table.now c.args.into.now _ c.loop-i.i c.requires c.loop-i.invariant.1 c.loop-i-test.true
+probe-at-requires c = room c.args.table.now c.args.into.now _ c.loop-w.w-index c.requires c.loop-w.invariant c.loop-w-test.true
 
 pub offset_bounds-into-at : goal.offset_bounds-into-at
 offset_bounds-into-at c =
-    omega (arith, inside c.args.table.now c.args.into.now _ c.loop-i.i _ _ c.requires c.loop-i.invariant.1 c.loop-i-test.true c.probe-at.ensures, ap length c.loop-i.invariant.1, part_length c.args.table.now c.loop-i.i)
+    omega (arith, inside c.args.table.now c.args.into.now _ c.loop-w.w-index _ _ c.requires c.loop-w.invariant c.loop-w-test.true c.probe-at.ensures, ap length c.loop-w.invariant, part_length c.args.table.now c.loop-w.w-index)
 
 pub bounds-into-at : goal.bounds-into-at
-bounds-into-at c = inside c.args.table.now c.args.into.now _ c.loop-i.i _ _ c.requires c.loop-i.invariant.1 c.loop-i-test.true c.probe-at.ensures
+bounds-into-at c = inside c.args.table.now c.args.into.now _ c.loop-w.w-index _ _ c.requires c.loop-w.invariant c.loop-w-test.true c.probe-at.ensures
 
-pub loop-i-preserved : goal.loop-i-preserved
-loop-i-preserved c =
+pub loop-w-preserved : goal.loop-w-preserved
+loop-w-preserved c =
     let t = c.args.table.now in
-    let h : c.loop-i.i < length t = omega arith in
+    let h : c.loop-w.w-index < length t = omega arith in
     elim c.if-w-ne0.branch [
-      | then-w-ne0 w ↦ (omega arith, w.into-is ∙ part_put t c.loop-i.into c.loop-i.i h c.loop-i.invariant.1 _ w.if-w-ne0.true (w.probe-at.ensures ∙ ap (place c.loop-i.into) w.slot.ensures))
-      | else-w-ne0 w ↦ (omega arith, w.into-is ∙ part_skip t c.loop-i.into c.loop-i.i h c.loop-i.invariant.1 w.if-w-ne0.false)
+      | then-w-ne0 w ↦ w.into-is ∙ part_put t c.loop-w.into c.loop-w.w-index h c.loop-w.invariant _ w.if-w-ne0.true (w.probe-at.ensures ∙ ap (place c.loop-w.into) w.slot.ensures)
+      | else-w-ne0 w ↦ w.into-is ∙ part_skip t c.loop-w.into c.loop-w.w-index h c.loop-w.invariant w.if-w-ne0.false
     ]
-
-pub shape_of-into : goal.shape_of-into
-shape_of-into c = ap length c.loop-i.invariant.1 ∙ part_length c.args.table.now c.loop-i.i ∙ sym c.requires.twice
 
 pub returns : goal.returns
 unfolding grown
 returns c =
     let t = c.args.table.now in
-    let e : c.loop-i.i ≡ length t = omega arith in
-    c.loop-i.invariant.1 ∙ ap (refill (replicate (length t + length t) 0)) (ap (λ (n : ℕ). take n t) e ∙ take-length t)
+    let e : c.loop-w.w-index ≡ length t = omega arith in
+    c.loop-w.invariant ∙ ap (refill (replicate (length t + length t) 0)) (ap (λ (n : ℕ). take n t) e ∙ take-length t)

@@ -1,21 +1,18 @@
 -- `aux_map::insert` meets its contract: `Inserting` says what each step leaves. Assumes nothing.
 use mathlib.Core.Path.{◌≡◌, sym, ap, ◌∙◌}
 use native.Mathlib.Omega.{arith}
-use lib.ListN.{take, length-set}
+use lib.ListN.{take}
 use Rattle.model.specs.Coupon.{slot}
-use Rattle.aux_map.specs.declared.FindResult.TheVariants.{Empty}
+use Rattle.std.specs.Prelude.{Err}
 use Rattle.aux_map.specs.Search.{finds}
 use Rattle.aux_map.proofs.Inserting as inserting
 use Rattle.aux_map.proofs.insert.Goals as goal
-use Rattle.aux_map.proofs.insert.Goals.{In-Empty}
+use Rattle.aux_map.proofs.insert.Goals.{In-Err}
 
 -- the place that the search yields
-answer : (c : In-Empty) → finds (take c.args.size c.args.area.now) (slot c.args.w) ≡ Empty c.in-Empty.at
+answer : (c : In-Err) → finds (take c.args.size c.args.area.now) (slot c.args.w) ≡ Err c.in-Err.at
 answer c =
-    sym (c.find.ensures ∙ ap (finds _) c.slot.ensures) ∙ c.in-Empty.is
-
-pub slice_bounds-find-end-2 : goal.slice_bounds-find-end-2
-slice_bounds-find-end-2 c = sym (inserting.table_length _ _ _ _ _ c.requires)
+    sym (c.find.ensures ∙ ap (finds _) c.slot.ensures) ∙ c.in-Err.is
 
 pub find-requires : goal.find-requires
 find-requires c = inserting.room _ _ _ _ _ c.requires
@@ -34,11 +31,8 @@ bounds-area-at c =
 
 pub check_grow-requires : goal.check_grow-requires
 check_grow-requires c =
-    inserting.growable _ _ _ _ _ c.requires _ (answer (goal.at.check_grow-requires c).In-Empty)
-
-pub shape_of-area : goal.shape_of-area
-shape_of-area c = c.check_grow.auto.area ∙ simp length-set
+    inserting.growable _ _ _ _ _ c.requires _ (answer (goal.at.check_grow-requires c).In-Err)
 
 pub returns : goal.returns
 returns c =
-    inserting.inserted _ _ _ _ _ c.requires _ (answer (goal.at.returns c).In-Empty) _ _ _ c.check_grow.ensures
+    inserting.inserted _ _ _ _ _ c.requires _ (answer (goal.at.returns c).In-Err) _ _ _ c.check_grow.ensures

@@ -3,21 +3,16 @@
 use mathlib.Core.Path.{◌≡◌, sym, ◌∙◌, ap, subst}
 use mathlib.Core.Bool.{true, false}
 use mathlib.Core.List.{List}
-use Prim.Native.Nat.{ℕ, suc, ◌+◌, ◌*◌, ◌/◌, ◌%◌, ◌^◌, ◌≤◌, ◌<◌}
+use Prim.Native.Nat.{ℕ, suc, ◌+◌, ◌*◌, ◌/◌, ◌%◌, ◌≤◌, ◌<◌}
 use native.Mathlib.Omega.{arith}
-use native.Mathlib.Nat.{div-le_self, mod-lt}
+use native.Mathlib.Nat.{mod-lt}
 use lib.ListN.{length, get_or}
 use Rattle.model.specs.Coupon.{slot}
 use Rattle.model.specs.Table.{Room, stops, stride, steps_from, place_from, place}
 use Rattle.model.proofs.table.Search.{size_pos, stride_odd, onward, onward_place, stopped, stops_empty, stops_slot, stops_not}
-use Rattle.aux_map.specs.Sizes.{Power}
 use Rattle.aux_map.proofs.probe.Goals as goal
-use Rattle.aux_map.proofs.probe.Goals.{After-quotient}
 
 module _ (t : List ℕ) (s : ℕ) (room : Room t) where
-  power : Power (length t)
-  power = record { lg = room.lg; power = room.size }
-
   begins : (at : ℕ) → at ≡ s % length t → (at < length t) × (place_from t s (stride (length t) s) at ≡ place t s)
   unfolding place
   begins at e = (subst (λ (p : ℕ). p < length t) (sym e) (mod-lt s (size_pos room)), ap (place_from t s (stride (length t) s)) e)
@@ -42,34 +37,8 @@ module _ (t : List ℕ) (s : ℕ) (room : Room t) where
         ap (place_from t s (stride (length t) s)) e ∙ onward_place t s _ room (stride_odd (length t) s) at inv.0 passed ∙ inv.1,
       )
 
--- the quotient is no larger than the slot
-below : (c : After-quotient) → c.quotient.result < 2 ^ 32
-below c =
-    omega (arith, c.quotient.ensures, div-le_self c.args.slot (length c.args.table.now))
-
-pub quotient-requires : goal.quotient-requires
-quotient-requires c = power _ c.args.slot c.requires
-
-pub overflow_mul-step : goal.overflow_mul-step
-overflow_mul-step c =
-    omega (arith, below c)
-
-pub overflow_add-step : goal.overflow_add-step
-overflow_add-step c =
-    omega (arith, below c)
-
-pub wrap-at-requires : goal.wrap-at-requires
-wrap-at-requires c = power _ c.args.slot c.requires
-
 pub loop-w-init : goal.loop-w-init
 loop-w-init c = begins _ _ c.requires _ c.wrap-at.ensures
-
-pub overflow_add-at : goal.overflow_add-at
-overflow_add-at c =
-    omega (arith, below (goal.at.overflow_add-at c).After-quotient, c.loop-w.invariant.0)
-
-pub wrap-at-requires-in-loop-w : goal.wrap-at-requires-in-loop-w
-wrap-at-requires-in-loop-w c = power _ c.args.slot c.requires
 
 pub loop-w-smaller : goal.loop-w-smaller
 loop-w-smaller c =
@@ -84,9 +53,3 @@ returns-then-w-eq0 c = found _ _ c.requires _ c.loop-w.invariant (stops_empty _ 
 
 pub returns-then-slot : goal.returns-then-slot
 returns-then-slot c = found _ _ c.requires _ c.loop-w.invariant (stops_slot _ _ (sym c.slot.ensures ∙ c.if-slot.true))
-
-pub offset_bounds-table-at : goal.offset_bounds-table-at
-offset_bounds-table-at c = omega arith
-
-pub bounds-table-at : goal.bounds-table-at
-bounds-table-at c = omega arith

@@ -31,11 +31,5 @@ small n p h = go (dec_lt p.lg 64)
 zeros : (n : ℕ) (p : Power n) → n < 2 ^ 64 → count_trailing_zeros 64 n ≡ p.lg
 zeros n p h = ap (count_trailing_zeros 64) p.power ∙ trailing_power 64 p.lg (small n p h)
 
-pub overflow_cast-result : goal.overflow_cast-result
-overflow_cast-result c = omega (arith, zeros _ c.requires (search rules), small _ c.requires (search rules))
-
-pub overflow_shr-result : goal.overflow_shr-result
-overflow_shr-result c = omega (arith, zeros _ c.requires (search rules), small _ c.requires (search rules))
-
 pub returns : goal.returns
 returns c = ap (λ (e : ℕ). c.args.x / 2 ^ e) (zeros _ c.requires (search rules)) ∙ ap (λ (n : ℕ). c.args.x / n) (sym c.requires.power)

@@ -1,13 +1,8 @@
 -- `aux_map::wrap` meets its contract: a mask of lg ones is the remainder by 2 ^ lg. Assumes nothing.
 use mathlib.Core.Path.{sym, ◌∙◌, ap}
 use Prim.Native.Nat.{ℕ, ◌-◌, ◌%◌}
-use native.Mathlib.Omega.{arith}
 use lib.Bits.{bit_and, and_mask}
-use lib.Pow.{pow_pos}
 use Rattle.aux_map.proofs.wrap.Goals as goal
-
-pub overflow_sub-result : goal.overflow_sub-result
-overflow_sub-result c = omega (arith, c.requires.power, pow_pos c.requires.lg)
 
 pub returns : goal.returns
 returns c =

@@ -9,15 +9,15 @@ use Rattle.image_check.proofs.aux_fault.Goals as goal
 use Rattle.image_check.proofs.aux_fault.Goals.{After-bytes_of-end}
 
 -- the register bytes lie within the image
-whole : (c : After-bytes_of-end) → 40 + c.bytes_of-end.result ≤ length c.args.image.now
+whole : (c : After-bytes_of-end) → 40 + c.bytes_of-end.result ≤ length c.args.image.bytes.now
 whole c =
     omega (arith, c.bytes_of-end.ensures, payload_here c.requires.sound)
 
 pub returns-then-h-ne4 : goal.returns-then-h-ne4
-returns-then-h-ne4 c = other _ _ _ c.requires c.if-h-ne4.true
+returns-then-h-ne4 c = other _ _ c.requires c.if-h-ne4.true
 
 pub returns-then-fulls-eq0 : goal.returns-then-fulls-eq0
-returns-then-fulls-eq0 c = none _ _ _ c.requires c.if-h-ne4.false c.if-h-eq0.true c.if-fulls-eq0.true
+returns-then-fulls-eq0 c = none _ _ c.requires c.if-h-ne4.false c.if-h-eq0.true c.if-fulls-eq0.true
 
 pub bytes_of-end-requires : goal.bytes_of-end-requires
 bytes_of-end-requires c = (formed c.requires.sound.formed).1.1
@@ -43,8 +43,8 @@ slice_bounds-aux_fault-start-2 c =
 
 pub aux_fault-requires : goal.aux_fault-requires
 aux_fault-requires c =
-    judgeable _ _ _ c.requires c.if-h-ne4.false _ c.bytes_of-end.ensures _ c.word_count-many.ensures
+    judgeable _ _ c.requires c.if-h-ne4.false _ c.bytes_of-end.ensures _ c.word_count-many.ensures
 
 pub returns : goal.returns
 returns c =
-    c.aux_fault.ensures ∙ judged _ _ _ c.requires c.if-h-ne4.false _ c.bytes_of-end.ensures _ c.word_count-many.ensures
+    c.aux_fault.ensures ∙ judged _ _ c.requires c.if-h-ne4.false _ c.bytes_of-end.ensures _ c.word_count-many.ensures

@@ -12,77 +12,77 @@ use Rattle.model.proofs.packing.Lengths.{bytes_few}
 use Rattle.image_header.proofs.Headers.{lg_arr_is}
 use Rattle.image_check.proofs.Passing.{formed, is_in, end_is, words_small}
 use Rattle.image_check.proofs.counts.Goals as goal
-use Rattle.image_check.proofs.counts.Goals.{After-counts_fit-fit, After-lg_arr_fits-form, After-word_count-many, Else-not-fit, Else-not-form}
+use Rattle.image_check.proofs.counts.Goals.{After-counts_fit, After-lg_arr_fits, After-word_count-many, Else-not-counts_fit, Else-not-lg_arr_fits}
 
 -- the tests, of what the book reads
-fit_is : (c : After-counts_fit-fit) → c.counts_fit-fit.result ≡ counts_fit (sketch_in c.args.image.now)
+fit_is : (c : After-counts_fit) → c.counts_fit.result ≡ counts_fit (sketch_in c.args.image.bytes.now)
 fit_is c =
-    c.counts_fit-fit.ensures ∙ ap counts_fit (c.sketch_of.ensures ∙ is_in c.requires)
+    c.counts_fit.ensures ∙ ap counts_fit (c.from.ensures ∙ is_in c.requires)
 
-form_is : (c : After-lg_arr_fits-form) → c.lg_arr_fits-form.result ≡ lg_arr_fits c.args.image.now
+form_is : (c : After-lg_arr_fits) → c.lg_arr_fits.result ≡ lg_arr_fits c.args.image.bytes.now
 form_is c =
-    c.lg_arr_fits-form.ensures ∙ lg_arr_is _ _ c.requires.headed
+    c.lg_arr_fits.ensures ∙ lg_arr_is _ _ c.args.image.headed
 
-counts : (c : Else-not-fit) → counts_fit (sketch_in c.args.image.now) ≡ true
+counts : (c : Else-not-counts_fit) → counts_fit (sketch_in c.args.image.bytes.now) ≡ true
 counts c =
-    let fit_is : c.counts_fit-fit.result ≡ counts_fit (sketch_in c.args.image.now) =
-    c.counts_fit-fit.ensures ∙ ap counts_fit (c.sketch_of.ensures ∙ is_in c.requires) in
-    sym fit_is ∙ c.if-not-fit.false
+    let fit_is : c.counts_fit.result ≡ counts_fit (sketch_in c.args.image.bytes.now) =
+    c.counts_fit.ensures ∙ ap counts_fit (c.from.ensures ∙ is_in c.requires) in
+    sym fit_is ∙ c.if-not-counts_fit.false
 
-form : (c : Else-not-form) → lg_arr_fits c.args.image.now ≡ true
+form : (c : Else-not-lg_arr_fits) → lg_arr_fits c.args.image.bytes.now ≡ true
 form c =
-    let form_is : c.lg_arr_fits-form.result ≡ lg_arr_fits c.args.image.now =
-    c.lg_arr_fits-form.ensures ∙ lg_arr_is _ _ c.requires.headed in
-    sym form_is ∙ c.if-not-form.false
+    let form_is : c.lg_arr_fits.result ≡ lg_arr_fits c.args.image.bytes.now =
+    c.lg_arr_fits.ensures ∙ lg_arr_is _ _ c.args.image.headed in
+    sym form_is ∙ c.if-not-lg_arr_fits.false
 
 -- where the payload ends
-end : (c : After-word_count-many) → let l = c.args.image.now in
+end : (c : After-word_count-many) → let l = c.args.image.bytes.now in
     40 + c.bytes_of-bytes.result + 4 * c.word_count-many.result ≡ 40 + bytes_of (sketch_in l).kind (sketch_in l).lg_k + 4 * word_count l
 end c =
     ap₂ (λ (m n : ℕ). 40 + m + 4 * n) c.bytes_of-bytes.ensures c.word_count-many.ensures ∙ end_is c.requires
 
-pub counts_fit-fit-requires : goal.counts_fit-fit-requires
-counts_fit-fit-requires c = rw c.sketch_of.ensures (formed c.requires).1.1
+pub counts_fit-requires : goal.counts_fit-requires
+counts_fit-requires c = rw c.from.ensures (formed c.requires).1.1
 
-pub returns-then-not-fit : goal.returns-then-not-fit
-returns-then-not-fit c =
-    counts_off _ (sym (fit_is (goal.at.returns-then-not-fit c).After-counts_fit-fit) ∙ c.if-not-fit.true)
+pub returns-then-not-counts_fit : goal.returns-then-not-counts_fit
+returns-then-not-counts_fit c =
+    counts_off _ (sym (fit_is (goal.at.returns-then-not-counts_fit c).After-counts_fit) ∙ c.if-not-counts_fit.true)
 
-pub returns-then-not-form : goal.returns-then-not-form
-returns-then-not-form c =
-    let past = goal.at.returns-then-not-form c in
-    counts_lg_arr _ (counts past.Else-not-fit) (sym (form_is past.After-lg_arr_fits-form) ∙ c.if-not-form.true)
+pub returns-then-not-lg_arr_fits : goal.returns-then-not-lg_arr_fits
+returns-then-not-lg_arr_fits c =
+    let past = goal.at.returns-then-not-lg_arr_fits c in
+    counts_lg_arr _ (counts past.Else-not-counts_fit) (sym (form_is past.After-lg_arr_fits) ∙ c.if-not-lg_arr_fits.true)
 
 pub bytes_of-bytes-requires : goal.bytes_of-bytes-requires
 bytes_of-bytes-requires c = (formed c.requires).1.1
 
 pub word_count-many-requires : goal.word_count-many-requires
-word_count-many-requires c = sym c.lg_arr_fits-form.ensures ∙ c.if-not-form.false
+word_count-many-requires c = sym c.lg_arr_fits.ensures ∙ c.if-not-lg_arr_fits.false
 
 pub overflow_add-bytes : goal.overflow_add-bytes
 overflow_add-bytes c =
     let bytes : c.bytes_of-bytes.result ≤ 2 ^ 21 = rw c.bytes_of-bytes.ensures (bytes_few _ _ (formed c.requires).1.1) in
-    let words : c.word_count-many.result < 2 ^ 32 = rw c.word_count-many.ensures (words_small c.requires (counts (goal.at.overflow_add-bytes c).Else-not-fit) (sym c.lg_arr_fits-form.ensures ∙ c.if-not-form.false)) in
+    let words : c.word_count-many.result < 2 ^ 32 = rw c.word_count-many.ensures (words_small c.requires (counts (goal.at.overflow_add-bytes c).Else-not-counts_fit) (sym c.lg_arr_fits.ensures ∙ c.if-not-lg_arr_fits.false)) in
     omega arith
 
 pub overflow_mul-many : goal.overflow_mul-many
 overflow_mul-many c =
     let bytes : c.bytes_of-bytes.result ≤ 2 ^ 21 = rw c.bytes_of-bytes.ensures (bytes_few _ _ (formed c.requires).1.1) in
-    let words : c.word_count-many.result < 2 ^ 32 = rw c.word_count-many.ensures (words_small c.requires (counts (goal.at.overflow_mul-many c).Else-not-fit) (sym c.lg_arr_fits-form.ensures ∙ c.if-not-form.false)) in
+    let words : c.word_count-many.result < 2 ^ 32 = rw c.word_count-many.ensures (words_small c.requires (counts (goal.at.overflow_mul-many c).Else-not-counts_fit) (sym c.lg_arr_fits.ensures ∙ c.if-not-lg_arr_fits.false)) in
     omega arith
 
 pub overflow_add-bytes-2 : goal.overflow_add-bytes-2
 overflow_add-bytes-2 c =
     let bytes : c.bytes_of-bytes.result ≤ 2 ^ 21 = rw c.bytes_of-bytes.ensures (bytes_few _ _ (formed c.requires).1.1) in
-    let words : c.word_count-many.result < 2 ^ 32 = rw c.word_count-many.ensures (words_small c.requires (counts (goal.at.overflow_add-bytes-2 c).Else-not-fit) (sym c.lg_arr_fits-form.ensures ∙ c.if-not-form.false)) in
+    let words : c.word_count-many.result < 2 ^ 32 = rw c.word_count-many.ensures (words_small c.requires (counts (goal.at.overflow_add-bytes-2 c).Else-not-counts_fit) (sym c.lg_arr_fits.ensures ∙ c.if-not-lg_arr_fits.false)) in
     omega arith
 
 pub returns-then-image-bytes : goal.returns-then-image-bytes
 returns-then-image-bytes c =
     let past = goal.at.returns-then-image-bytes c in
-    counts_short _ (counts past.Else-not-fit) (form past.Else-not-form) (subst (λ (n : ℕ). length c.args.image.now < n) (end past.After-word_count-many) c.if-image-bytes.true)
+    counts_short _ (counts past.Else-not-counts_fit) (form past.Else-not-lg_arr_fits) (subst (λ (n : ℕ). length c.args.image.bytes.now < n) (end past.After-word_count-many) c.if-image-bytes.true)
 
 pub returns : goal.returns
 returns c =
     let past = goal.at.returns c in
-    counts_right _ (counts past.Else-not-fit) (form past.Else-not-form) (subst (λ (n : ℕ). n ≤ length c.args.image.now) (end past.After-word_count-many) c.if-image-bytes.false)
+    counts_right _ (counts past.Else-not-counts_fit) (form past.Else-not-lg_arr_fits) (subst (λ (n : ℕ). n ≤ length c.args.image.bytes.now) (end past.After-word_count-many) c.if-image-bytes.false)

@@ -12,10 +12,10 @@ sized c =
 pub returns-then-regs_len-bytes_of : goal.returns-then-regs_len-bytes_of
 returns-then-regs_len-bytes_of c = memory_size _ _ _ _ _ (size_off _ _ _ (λ e. c.if-regs_len-bytes_of.true (e ∙ sym c.bytes_of.ensures)))
 
-pub returns-then-not-spare : goal.returns-then-not-spare
-returns-then-not-spare c =
-    memory_scratch _ _ _ _ _ (sized (goal.at.returns-then-not-spare c).Else-regs_len-bytes_of) (sym c.scratch_fits-spare.ensures ∙ c.if-not-spare.true)
+pub returns-then-not-scratch_fits : goal.returns-then-not-scratch_fits
+returns-then-not-scratch_fits c =
+    memory_scratch _ _ _ _ _ (sized (goal.at.returns-then-not-scratch_fits c).Else-regs_len-bytes_of) (sym c.scratch_fits.ensures ∙ c.if-not-scratch_fits.true)
 
 pub returns : goal.returns
 returns c =
-    memory_right _ _ _ _ _ (sized (goal.at.returns c).Else-regs_len-bytes_of) (sym c.scratch_fits-spare.ensures ∙ c.if-not-spare.false)
+    memory_right _ _ _ _ _ (sized (goal.at.returns c).Else-regs_len-bytes_of) (sym c.scratch_fits.ensures ∙ c.if-not-scratch_fits.false)

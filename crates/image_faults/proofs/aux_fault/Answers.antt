@@ -1,8 +1,11 @@
 -- `image_faults::aux_fault` meets its contract: `Verdict` has a law for each return. Assumes nothing.
-use mathlib.Core.Path.{sym, ◌∙◌}
+use mathlib.Core.Path.{sym, ap, ap₂, ◌∙◌}
 use native.Mathlib.Omega.{arith}
+use Rattle.model.specs.Answers.{said}
 use Rattle.model.proofs.packing.Packing.{length_unpacked}
-use Rattle.image_faults.proofs.Verdict.{is_word, is_fault, is_count, is_even, is_match, is_fine}
+use Rattle.image_faults.specs.Windows.{no_of}
+use Rattle.image_faults.proofs.Passing.{some_wrong}
+use Rattle.image_faults.proofs.Verdict.{is_fault, is_count, is_even, is_match, is_fine}
 use Rattle.image_faults.proofs.aux_fault.Goals as goal
 
 pub overflow_cast-v : goal.overflow_cast-v
@@ -10,23 +13,20 @@ overflow_cast-v c =
     let a = c.args in
     omega (arith, c.sweep-v.ensures.found.upto, length_unpacked 32 a.many a.words.now, c.requires.sweepable.few)
 
-pub wrong_word-requires : goal.wrong_word-requires
-wrong_word-requires c = is_word c.sweep-v.ensures c.if-v-ne0.true
-
-pub returns-then-v-ne0 : goal.returns-then-v-ne0
-returns-then-v-ne0 c = c.wrong_word.ensures ∙ is_fault c.sweep-v.ensures c.if-v-ne0.true
+pub returns-in-Some : goal.returns-in-Some
+returns-in-Some c =
+    let is = ap no_of c.in-Some.is in
+    ap₂ said (c.refusal.ensures.0 ∙ sym is) c.refusal.ensures.1 ∙ is_fault c.sweep-v.ensures (λ z. some_wrong c.in-Some.fault (sym is ∙ z))
 
 pub returns-then-v-h : goal.returns-then-v-h
-returns-then-v-h c = is_count c.sweep-v.ensures c.if-v-ne0.false c.if-v-h.true
+returns-then-v-h c = is_count c.sweep-v.ensures (ap no_of c.in_default.is) c.if-v-h.true
 
 pub returns-then-fulls-h : goal.returns-then-fulls-h
 returns-then-fulls-h c =
-    is_even c.sweep-v.ensures c.if-v-ne0.false c.if-v-h.false c.if-v.true (length_unpacked 4 _ _) (sym c.if-fulls-h.true ∙ c.requires.full)
+    is_even c.sweep-v.ensures (ap no_of c.in_default.is) c.if-v-h.false c.if-v.true (length_unpacked 4 _ _) (sym c.if-fulls-h.true ∙ c.requires.full)
 
-pub returns-then-u-size_of : goal.returns-then-u-size_of
-returns-then-u-size_of c =
-    is_match c.sweep-v.ensures c.if-v-ne0.false c.if-v-h.false c.sweep-u.ensures (omega (arith, c.if-u-size_of.true, c.size_of.ensures))
+pub returns-in-Some-slot : goal.returns-in-Some-slot
+returns-in-Some-slot c = is_match c.sweep-v.ensures (ap no_of c.in_default.is) c.if-v-h.false c.sweep.ensures c.in-Some-slot.is
 
-pub returns : goal.returns
-returns c =
-    is_fine c.sweep-v.ensures c.if-v-ne0.false c.if-v-h.false c.sweep-u.ensures (omega (arith, c.if-u-size_of.false, c.size_of.ensures))
+pub returns-in-None : goal.returns-in-None
+returns-in-None c = is_fine c.sweep-v.ensures (ap no_of c.in_default.is) c.if-v-h.false c.sweep.ensures c.in-None.is

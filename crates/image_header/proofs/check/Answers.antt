@@ -6,12 +6,12 @@ use Rattle.image_header.proofs.check.Goals as goal
 pub returns-then-image-lt-REGISTERS_BYTE : goal.returns-then-image-lt-REGISTERS_BYTE
 returns-then-image-lt-REGISTERS_BYTE c = header_short _ c.if-image-lt-REGISTERS_BYTE.true
 
-pub returns-then-not-begun : goal.returns-then-not-begun
-returns-then-not-begun c =
-    let l = c.args.image.now in
-    header_off l c.if-image-lt-REGISTERS_BYTE.false _ (begins_tells l _ c.starts-begun.ensures) c.if-not-begun.true
+pub returns-then-not-starts_with : goal.returns-then-not-starts_with
+returns-then-not-starts_with c =
+    let long = c.if-image-lt-REGISTERS_BYTE.false in
+    header_off _ long _ (begins_tells _ _ long c.starts_with.ensures.value) c.if-not-starts_with.true
 
 pub returns : goal.returns
 returns c =
-    let l = c.args.image.now in
-    header_right l c.if-image-lt-REGISTERS_BYTE.false _ (begins_tells l _ c.starts-begun.ensures) c.if-not-begun.false
+    let long = c.if-image-lt-REGISTERS_BYTE.false in
+    header_right _ long _ (begins_tells _ _ long c.starts_with.ensures.value) c.if-not-starts_with.false

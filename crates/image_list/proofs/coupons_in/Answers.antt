@@ -51,14 +51,11 @@ bounds-image-at c =
     let past = goal.at.bounds-image-at c in
     rw (is past.After-layout_of-y) (byte_inside c.args.image.now (byte past.Then-y-eq8) (long past.After-layout_of-y))
 
-pub overflow_cast-result : goal.overflow_cast-result
-overflow_cast-result c = omega (arith, (c.type_inv.image c.layout_of-y.result.count).fits)
-
 pub returns-then-y-eq8 : goal.returns-then-y-eq8
 returns-then-y-eq8 c =
     let past = goal.at.returns-then-y-eq8 c in
     let l = c.args.image.now in
-    let count : get_or l c.layout_of-y.result.count 0 ≡ coupon_count l = ap (λ (y : Layout). get_or l y.count 0) (is past.After-layout_of-y) ∙ byte_count l (λ i. (c.type_inv.image i).fits) (byte past.Then-y-eq8) in
+    let count : c.from.result ≡ coupon_count l = c.from.ensures ∙ ap (λ (y : Layout). get_or l y.count 0) (is past.After-layout_of-y) ∙ byte_count l (λ i. (c.type_inv.image i).fits) (byte past.Then-y-eq8) in
     λ i. record { words = ((is past.After-layout_of-y) i).words; count = count i }
 
 pub slice_bounds-word_at-count : goal.slice_bounds-word_at-count

@@ -1,28 +1,27 @@
--- `job::asks_for` meets its contract: three texts are put one behind the other, and compared. Assumes nothing.
-use mathlib.Core.Path.{sym, ap, ◌∙◌}
+-- `job::asks_for` meets its contract: three texts are pushed one behind the other, and compared. Assumes nothing.
+use mathlib.Core.Path.{ap, ◌∙◌}
 use mathlib.Core.List.{List}
 use Prim.Native.Nat.{ℕ}
 use native.Mathlib.Omega.{arith}
-use lib.Seq.{length-take-le}
+use lib.ListN.{length}
 use Rattle.text.proofs.Decimal.{decimal_few}
-use Rattle.text.specs.Text.{line, stands_at}
-use Rattle.text.proofs.Writing.{written_next}
+use Rattle.text.proofs.Writing.{pushed_long}
+use Rattle.text.specs.Text.{decimal, line, stands_at, text}
 use Rattle.job.proofs.asks_for.Goals as goal
 
-pub put_decimal-said-requires : goal.put_decimal-said-requires
-put_decimal-said-requires c = omega (arith, decimal_few c.args.lg_k 1 (omega arith))
+pub push_decimal-requires : goal.push_decimal-requires
+push_decimal-requires c =
+    let key = pushed_long c.new-line.result (text "lgk=") c.push.ensures in
+    omega (arith, ap length c.new-line.ensures, key, decimal_few c.from.result 1 (omega arith))
 
-pub put-end-requires : goal.put-end-requires
-put-end-requires c = omega (arith, decimal_few c.args.lg_k 1 (omega arith))
-
-pub slice_bounds-line-end : goal.slice_bounds-line-end
-slice_bounds-line-end c = omega (arith, decimal_few c.args.lg_k 1 (omega arith))
-
-pub slice_bounds-stands-end : goal.slice_bounds-stands-end
-slice_bounds-stands-end c = sym (length-take-le _ _ (omega (arith, decimal_few c.args.lg_k 1 (omega arith))))
+pub push-requires-2 : goal.push-requires-2
+push-requires-2 c =
+    let key = pushed_long c.new-line.result (text "lgk=") c.push.ensures in
+    let said = pushed_long c.push.new.self (decimal c.from.result) c.push_decimal.ensures in
+    omega (arith, ap length c.new-line.ensures, key, said, decimal_few c.from.result 1 (omega arith))
 
 pub returns : goal.returns
 unfolding line
 returns c =
-    let size = written_next c.put-key.ensures c.put_decimal-said.ensures in
-    c.stands.ensures ∙ ap (λ (p : List ℕ). stands_at p c.args.job.now) (written_next size c.put-end.ensures).front
+    let said = rw (c.push_decimal.ensures, c.push.ensures, c.new-line.ensures, c.from.ensures) at c.push-2.ensures in
+    c.stands.ensures ∙ ap (λ (p : List ℕ). stands_at p c.args.job.now) (c.as_slice.ensures.bytes ∙ said)

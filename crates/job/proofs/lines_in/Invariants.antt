@@ -6,7 +6,4 @@ use Rattle.job.proofs.lines_in.Given as goal
 
 abbrev pub invariant-loop-files : goal.invariant-loop-files
 invariant-loop-files l =
-    (l.files ≤ 64) × (l.end ≤ length l.job) × (l.files + left l.job (64 - l.files) l.end ≡ left l.job 64 l.at) × (l.end + bytes_left l.job (64 - l.files) l.end ≡ l.at + bytes_left l.job 64 l.at)
-
-abbrev pub decreases-loop-files : goal.decreases-loop-files
-decreases-loop-files l = 64 - l.files
+    (l.end ≤ length l.job) × (l.files + left l.job (64 - l.files) l.end ≡ left l.job 64 l.at) × (l.end + bytes_left l.job (64 - l.files) l.end ≡ l.at + bytes_left l.job 64 l.at)

@@ -21,6 +21,7 @@ use Rattle.model.specs.Sketch.{bytes_of, stored, area_of, registers, Good}
 use Rattle.model.specs.Check.{shape_no, scratch_fits, check_no}
 use Rattle.model.specs.Calls.{kept_out, start_of, state_of, step_of, batch_of, feed_of, eight_no, merge_no, merge_of}
 use Rattle.model.specs.declared.Sketch.{Sketch}
+use Rattle.model.specs.declared.Checked.{Checked}
 use Rattle.model.proofs.order.Tells.{tells_le, tells_eq, tells_true}
 use Rattle.model.proofs.calls.Ladder.{Says, says_as, says_self, says_pass, says_last, says_next, shape_says, check_says}
 use Rattle.model.proofs.registers.Raising.{length_poured, poured_small}
@@ -57,6 +58,10 @@ empty_table base k = record {
 -- ---- the checks
 pub check_ok : (lent : Bool) (s : Sketch) (regs aux : List ℕ) → Bytes regs → check_no lent s regs aux ≡ 0 → Good s regs aux
 check_ok lent s regs aux by e = let (h, (l, g)) = (check_says lent s regs aux).0 e in ((lawful s.kind h.kind_known).tells s regs aux refl h by).0 g
+
+-- so a checked one is in good order
+pub checked_good : (h : Checked) → Good h.sketch h.regs.now h.aux.now
+checked_good h = check_ok true h.sketch h.regs.now h.aux.now h.bytes h.passed
 
 pub ok_check : (lent : Bool) (s : Sketch) (regs aux : List ℕ) → lent ≡ true → Good s regs aux → check_no lent s regs aux ≡ 0
 ok_check lent s regs aux l g = (check_says lent s regs aux).1 (g.shaped, (l, tells_true _ ((lawful s.kind g.shaped.kind_known).tells s regs aux refl g.shaped (good_bytes g)) g))

@@ -7,42 +7,47 @@ use native.Mathlib.Omega.{arith}
 use lib.Dec.{eqb, leb}
 use lib.ListN.{length}
 use Rattle.model.specs.Pick.{pick}
-use Rattle.model.specs.Answers.{number_of, place_of}
+use Rattle.std.specs.Prelude.{Result, Ok, Err}
+use Rattle.model.specs.Answers.{refusal_no, refusal_place, number_of, place_of}
 use Rattle.model.specs.Table.{base_for, table_size}
 use Rattle.model.specs.Sketch.{is_kind, bytes_of}
 use Rattle.model.specs.Check.{good_of, counts_fit, size_no, shape_no, scratch_fits, check_no}
 use Rattle.model.specs.Calls.{Out, kept_out, start_of, batch_of, feed_of, eight_no, merge_no, merge_of}
 use Rattle.model.specs.Image.{sketch_in, word_count, lg_arr_fits, header_no, form_no, memory_no, counts_no, room_no}
 use Rattle.model.specs.declared.Sketch.{Sketch}
-use Rattle.model.specs.declared.Answer.{Answer}
-use Rattle.model.specs.declared.Answer.TheVariants as v
+use Rattle.model.specs.declared.Refusal.{Refusal}
+use Rattle.model.specs.declared.Refusal.TheVariants as v
 use Rattle.model.proofs.calls.Rungs.{first_either, pick_either, first_none, lgk_either, header_either, form_either}
 
--- an answer of the first twenty numbers names no place
-pub low_place : (a : Answer) → number_of a < 21 → place_of a ≡ 0
-low_place v.Ok h = refl
-low_place v.Kind h = refl
-low_place v.LgK h = refl
-low_place v.Size h = refl
-low_place v.Damaged h = refl
-low_place v.Finer h = refl
-low_place v.NoRoom h = refl
-low_place v.Short h = refl
-low_place v.Header h = refl
-low_place v.Mode h = refl
-low_place v.Counts h = refl
-low_place v.LgArr h = refl
-low_place v.Value h = refl
-low_place v.Spare h = refl
-low_place v.Tally h = refl
-low_place v.Out h = refl
-low_place (v.AuxEmpty i) h = absurd (omega arith)
-low_place (v.AuxTwice i) h = absurd (omega arith)
-low_place (v.AuxLow i) h = absurd (omega arith)
-low_place v.AuxCount h = refl
-low_place (v.AuxMatch s) h = absurd (omega arith)
-low_place v.Form h = refl
-low_place (v.ListEmpty i) h = absurd (omega arith)
+-- a refusal of the first twenty numbers names no place
+low_refusal : (e : Refusal) → refusal_no e < 21 → refusal_place e ≡ 0
+low_refusal v.Kind h = refl
+low_refusal v.LgK h = refl
+low_refusal v.Size h = refl
+low_refusal v.Damaged h = refl
+low_refusal v.Finer h = refl
+low_refusal v.NoRoom h = refl
+low_refusal v.Short h = refl
+low_refusal v.Header h = refl
+low_refusal v.Mode h = refl
+low_refusal v.Counts h = refl
+low_refusal v.LgArr h = refl
+low_refusal v.Value h = refl
+low_refusal v.Spare h = refl
+low_refusal v.Tally h = refl
+low_refusal v.Out h = refl
+low_refusal (v.AuxEmpty i) h = absurd (omega arith)
+low_refusal (v.AuxTwice i) h = absurd (omega arith)
+low_refusal (v.AuxLow i) h = absurd (omega arith)
+low_refusal v.AuxCount h = refl
+low_refusal (v.AuxMatch s) h = absurd (omega arith)
+low_refusal v.Form h = refl
+low_refusal (v.ListEmpty i) h = absurd (omega arith)
+
+-- nor does an answer of them
+pub low_place : {A : Type 0} (a : Result A Refusal) → number_of a < 21 → place_of a ≡ 0
+low_place (Ok x) h = refl
+low_place (Err e) h = low_refusal e h
 
 -- ---- the numbers of these
 abbrev Low : ℕ → Type 0
@@ -91,15 +96,15 @@ pub room_low : (lgk count aux : ℕ) → room_no lgk count aux < 21
 unfolding room_no
 room_low lgk count aux = pick_either Low (leb (table_size (base_for lgk) count) aux) (omega arith) (omega arith)
 
--- ---- so an answer of such a number names none
-pub shape_place : (a : Answer) (kind lgk len : ℕ) → number_of a ≡ shape_no kind lgk len → place_of a ≡ 0
-shape_place a kind lgk len e = low_place a (rw e (shape_low kind lgk len))
+-- ---- so a refusal of such a number names none
+pub shape_place : (e : Refusal) (kind lgk len : ℕ) → refusal_no e ≡ shape_no kind lgk len → refusal_place e ≡ 0
+shape_place e kind lgk len h = low_refusal e (rw h (shape_low kind lgk len))
 
-pub check_place : (a : Answer) (lent : Bool) (s : Sketch) (regs aux : List ℕ) → number_of a ≡ check_no lent s regs aux → place_of a ≡ 0
-check_place a lent s regs aux e = low_place a (rw e (check_low lent s regs aux))
+pub check_place : (e : Refusal) (lent : Bool) (s : Sketch) (regs aux : List ℕ) → refusal_no e ≡ check_no lent s regs aux → refusal_place e ≡ 0
+check_place e lent s regs aux h = low_refusal e (rw h (check_low lent s regs aux))
 
-pub eight_place : (a : Answer) (s : Sketch) (regs : List ℕ) → number_of a ≡ eight_no s regs → place_of a ≡ 0
-eight_place a s regs e = low_place a (rw e (eight_low s regs))
+pub eight_place : (e : Refusal) (s : Sketch) (regs : List ℕ) → refusal_no e ≡ eight_no s regs → refusal_place e ≡ 0
+eight_place e s regs h = low_refusal e (rw h (eight_low s regs))
 
 -- ---- nor do these calls
 -- neither of two results names one

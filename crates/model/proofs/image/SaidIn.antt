@@ -7,10 +7,11 @@ use Prim.Native.Nat.{ℕ, ◌<◌}
 use native.Mathlib.Decide.{ℕ_discrete}
 use lib.ListN.{length}
 use borrow.Author.Tests.{lt-leb, ne_eqb}
+use Rattle.std.specs.Prelude.{Result}
 use Rattle.model.specs.Answers.{number_of, placed, Said, said, said_of}
 use Rattle.model.specs.Calls.{refused_at, nothing}
 use Rattle.model.specs.Image.{sketch_in, aux_in, place_in, said_in, open_no, open_of}
-use Rattle.model.specs.declared.Answer.{Answer}
+use Rattle.model.specs.declared.Refusal.{Refusal}
 use Rattle.model.proofs.calls.Places.{low_place}
 use Rattle.model.proofs.image.Faults.{finds_placed}
 use Rattle.model.proofs.image.SameSlots.{aux_other, by_words}
@@ -21,7 +22,7 @@ module _ (l : List ℕ) where
   unfolding place_in
   low_in {n} e h = rw (← e, lt-leb 21 n h)
 
-  pub answer_in : (a : Answer) {m : ℕ} → number_of a ≡ m → m < 21 → said_of a ≡ said_in l m
+  pub answer_in : {A : Type 0} (a : Result A Refusal) {m : ℕ} → number_of a ≡ m → m < 21 → said_of a ≡ said_in l m
   answer_in a e h = let d : number_of a < 21 = rw e h in ap (said (number_of a)) (low_place a d) ∙ low_in e d
 
   -- nothing is wrong with the exception words, or their answer names its place

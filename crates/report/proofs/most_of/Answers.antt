@@ -1,17 +1,13 @@
--- `report::most_of` meets its contract. The invariant: the largest is the larger of what was seen and what is left. Assumes nothing.
-use mathlib.Core.Path.{sym, ◌∙◌}
-use native.Mathlib.Omega.{arith}
-use borrow.Author.Rules.{rules}
-use Rattle.report.proofs.Largest.{most_next, most_end}
+-- `report::most_of` meets its contract: none is above what `max` gives, and some register is that. Assumes nothing.
+use Rattle.std.proofs.Common.{◌≡◌, ◌∙◌, rules, ℕ, ◌≤◌, ◌<◌, length, MatchOption, slice_index_or}
+use Rattle.std.specs.List.{SomeIndex}
+use Rattle.std.proofs.iter.runs.Made.{chains}
+use Rattle.report.proofs.Largest.{top_most}
 use Rattle.report.proofs.most_of.Goals as goal
 
-pub loop-i-init : goal.loop-i-init
-loop-i-init c = (search rules, omega arith)
-
-pub loop-i-preserved : goal.loop-i-preserved
-loop-i-preserved c =
-    let l = c.loop-i in
-    (omega arith, rw c.larger-seen.ensures (l.invariant.1 ∙ most_next _ l.i l.seen (omega arith)))
-
 pub returns : goal.returns
-returns c = sym (c.loop-i.invariant.1 ∙ most_end _ _ _ c.loop-i-test.false)
+returns c =
+    let R = c.args.regs.now in
+    let above : MatchOption c.max.result (length R ≡ 0) (λ m. (i : ℕ) → i < length R → slice_index_or R i 0 ≤ m) = search (rules, chains) in
+    let some : MatchOption c.max.result (length R ≡ 0) (λ m. SomeIndex R (λ i. slice_index_or R i 0 ≡ m)) = search (rules, chains) in
+    c.unwrap_or.ensures ∙ top_most R c.max.result above some

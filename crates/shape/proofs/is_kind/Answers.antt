@@ -1,13 +1,12 @@
 -- `shape::is_kind` meets its contract. Assumes nothing.
 use mathlib.Core.Path.{sym}
-use Rattle.model.proofs.packing.Lengths.{is_four, is_six, is_else}
+use borrow.Author.Rules.{rules}
+use Rattle.model.proofs.packing.Lengths.{kind_tells}
+use Rattle.model.proofs.order.Tells.{tells_one, tells_true, tells_no}
 use Rattle.shape.proofs.is_kind.Goals as goal
 
-pub returns-then-kind-eq4 : goal.returns-then-kind-eq4
-returns-then-kind-eq4 c = rw c.if-kind-eq4.true (sym is_four)
+pub returns-in-4 : goal.returns-in-4
+returns-in-4 c = sym (tells_true _ (kind_tells _) c.in-4.is)
 
-pub returns-then-kind-eq6 : goal.returns-then-kind-eq6
-returns-then-kind-eq6 c = rw c.if-kind-eq6.true (sym is_six)
-
-pub returns : goal.returns
-returns c = sym (is_else c.if-kind-eq4.false c.if-kind-eq6.false)
+pub returns-in_default : goal.returns-in_default
+returns-in_default c = tells_one _ _ (tells_no (search rules)) (kind_tells _)

@@ -8,8 +8,8 @@ feed-requires c =
     let pre = c.requires in
     record { kind = four; good = pre.good; spare = pre.spare four }
 
-pub feed_plain-after-requires : goal.feed_plain-after-requires
-feed_plain-after-requires c = can_plain _ _ _ c.if-s-eq4.false c.requires.good
+pub feed_plain-requires : goal.feed_plain-requires
+feed_plain-requires c = can_plain _ _ _ c.if-s-eq4.false c.requires.good
 
 pub returns : goal.returns
-returns c = all_taken _ _ _ c.if-s-eq4.false _ c.feed_plain-after.ensures
+returns c = all_taken _ _ _ c.if-s-eq4.false _ c.feed_plain.ensures

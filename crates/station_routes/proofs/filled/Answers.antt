@@ -1,10 +1,12 @@
--- `station_routes::filled` meets its contract: that of `start`, then that of `feed`: the history grows by both. Assumes nothing.
-use native.Mathlib.Omega.{arith}
-use Rattle.station_routes.proofs.Histories.{stands_start, stands_feed}
+-- `station_routes::filled` meets its contract: with so much room start and feed are not refused, and what they leave stands. Assumes nothing.
+use Rattle.station_routes.proofs.Filling.{starts, goes, stands}
 use Rattle.station_routes.proofs.filled.Goals as goal
 
+pub unwrap-empty-requires : goal.unwrap-empty-requires
+unwrap-empty-requires g c = starts c.requires _ _ _ c.start.ensures
+
+pub unwrap-fed-requires : goal.unwrap-fed-requires
+unwrap-fed-requires g c = goes c.requires _ _ _ c.start.ensures c.start.auto.aux c.unwrap-empty.ensures _ _ _ _ c.feed.ensures
+
 pub returns : goal.returns
-returns c =
-    let r = c.requires in
-    let empty = stands_start _ _ _ _ c.start-made.ensures r.shaped in
-    stands_feed _ _ c.feed-fed.ensures empty (λ q. omega (arith, r.room q)) (λ q. omega (arith, r.scratched q))
+returns g c = stands c.requires _ _ _ c.start.ensures c.start.auto.aux c.unwrap-empty.ensures _ _ _ _ c.feed.ensures c.unwrap-fed.ensures

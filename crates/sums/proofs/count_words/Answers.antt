@@ -1,19 +1,19 @@
--- `sums::count_words` meets its contract. What is left are the words from `i` on. Assumes nothing.
+-- `sums::count_words` meets its contract. What is left are the words from this one on. Assumes nothing.
+use native.Mathlib.Nat.{add-zero}
 use native.Mathlib.Omega.{arith}
-use Rattle.sums.proofs.Tallies.{saying_none, saying_asks, saying_turn, saying_few, saying_end}
+use Rattle.sums.proofs.Tallies.{word_skipped, word_counted, saying_asks, saying_turn, saying_end}
 use Rattle.sums.proofs.count_words.Goals as goal
+use Rattle.sums.proofs.count_words.Goals.{then-value-ne0, else-value-ne0}
 
-pub loop-i-init : goal.loop-i-init
-loop-i-init c = saying_none _ _
+pub count_in-requires : goal.count_in-requires
+count_in-requires c = (omega (arith, c.value-value.ensures), saying_asks c.loop-word.invariant c.requires)
 
-pub count_word-many-requires : goal.count_word-many-requires
-count_word-many-requires c = saying_asks c.loop-i.invariant c.requires
-
-pub overflow_add-many : goal.overflow_add-many
-overflow_add-many c = omega (arith, saying_few (saying_turn c.loop-i.invariant c.loop-i-test.true c.count_word-many.ensures), c.requires.few)
-
-pub loop-i-preserved : goal.loop-i-preserved
-loop-i-preserved c = saying_turn c.loop-i.invariant c.loop-i-test.true c.count_word-many.ensures
+pub loop-word-preserved : goal.loop-word-preserved
+loop-word-preserved c =
+    elim c.if-value-ne0.branch [
+      | then-value-ne0 w ↦ rw (w.counts-is, w.many-is) (saying_turn c.loop-word.invariant c.loop-word-test.true (word_counted _ c.value-value.ensures w.if-value-ne0.true w.count_in.ensures))
+      | else-value-ne0 w ↦ rw (w.counts-is, w.many-is, ← add-zero c.loop-word.many) (saying_turn c.loop-word.invariant c.loop-word-test.true (word_skipped _ c.value-value.ensures w.if-value-ne0.false))
+    ]
 
 pub returns : goal.returns
-returns c = saying_end c.loop-i.invariant c.loop-i-test.false
+returns c = saying_end c.loop-word.invariant c.loop-word-test.false

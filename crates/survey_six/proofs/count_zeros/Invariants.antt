@@ -1,11 +1,14 @@
 use mathlib.Core.Path.{◌≡◌}
-use Prim.Native.Nat.{◌+◌, ◌%◌, ◌-◌, ◌≤◌}
+use Prim.Native.Nat.{◌+◌}
 use lib.ListN.{length}
-use Rattle.survey_six.specs.Six.{left}
+use Rattle.model.specs.Packed.{Bytes}
+use Rattle.model.specs.Registers.{count_of}
+use Rattle.survey_six.specs.Six.{Groups}
+use Rattle.survey_six.proofs.Zeros.{cells}
 use Rattle.survey_six.proofs.count_zeros.Given as goal
 
-abbrev pub invariant-loop-from : goal.invariant-loop-from
-invariant-loop-from l = (l.from + 1 ≤ length l.regs) × (l.from % 3 ≡ 0) × (l.n + left l.regs l.from ≡ left l.regs 0)
+abbrev pub invariant-loop-others : goal.invariant-loop-others
+invariant-loop-others l = Groups l.others × Bytes l.others × (l.n + count_of 0 (cells l.others) ≡ count_of 0 (cells l.regs))
 
-abbrev pub decreases-loop-from : goal.decreases-loop-from
-decreases-loop-from l = length l.regs - l.from
+abbrev pub decreases-loop-others : goal.decreases-loop-others
+decreases-loop-others l = length l.others

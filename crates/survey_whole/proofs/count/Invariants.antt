@@ -1,11 +1,10 @@
 use mathlib.Core.Path.{◌≡◌}
-use Prim.Native.Nat.{◌+◌, ◌-◌, ◌≤◌}
-use lib.ListN.{length}
-use Rattle.survey_whole.specs.Whole.{left}
+use Prim.Native.Nat.{◌+◌, ◌*◌}
+use lib.ListN.{drop}
+use Rattle.std.specs.List.{sum_by}
+use Rattle.survey_whole.specs.declared.TheConstants.{PART}
+use Rattle.survey_whole.proofs.Counted.{hit}
 use Rattle.survey_whole.proofs.count.Given as goal
 
-abbrev pub invariant-loop-from : goal.invariant-loop-from
-invariant-loop-from l = (l.from ≤ length l.regs) × (l.n + left l.width l.is l.regs l.from ≡ left l.width l.is l.regs 0)
-
-abbrev pub decreases-loop-from : goal.decreases-loop-from
-decreases-loop-from l = length l.regs - l.from
+abbrev pub invariant-loop-part : goal.invariant-loop-part
+invariant-loop-part l = l.n + sum_by (hit l.width l.is) (drop (PART * l.part-index) l.regs) ≡ sum_by (hit l.width l.is) l.regs

@@ -1,22 +1,15 @@
 -- `survey_whole::count_part` meets its contract. Assumes nothing.
-use mathlib.Core.Path.{◌≡◌, sym, ◌∙◌, ap}
-use Prim.Native.Nat.{ℕ, ◌+◌, ◌<◌}
+use mathlib.Core.Path.{◌≡◌, sym, ◌∙◌}
 use native.Mathlib.Omega.{arith}
-use lib.ListN.{length}
+use lib.ListN.{take}
+use Rattle.std.proofs.lemmas.List.{take_all}
 use Rattle.model.specs.Packed.{Bytes}
-use Rattle.survey_whole.specs.Whole.{left}
-use Rattle.survey_whole.proofs.Counted.{left_turn}
+use Rattle.survey_whole.proofs.Counted.{count_is}
 use Rattle.survey_whole.proofs.count_part.Goals as goal
-
-pub loop-at-preserved : goal.loop-at-preserved
-loop-at-preserved c =
-    let regs = c.args.regs.now in
-    let bytes : Bytes regs = λ i. (c.type_inv.regs i).fits in
-    let h : c.loop-at.at < length regs = omega arith in
-    (omega arith, omega arith, omega (arith, c.hits-n.ensures.most), omega (arith, c.loop-at.invariant.3, left_turn regs bytes c.loop-at.at h c.requires.width _ _ c.hits-n.ensures))
 
 pub returns : goal.returns
 returns c =
-    let regs = c.args.regs.now in
-    let e : c.loop-at.at ≡ c.args.to = omega arith in
-    ap (λ (n : ℕ). c.loop-at.n + left c.args.width c.args.is regs n) (sym e) ∙ c.loop-at.invariant.3
+    let part = c.args.part.now in
+    let bytes : Bytes part = λ i. (c.type_inv.part i).fits in
+    let all : take c.loop-byte.byte-index part ≡ part = take_all c.loop-byte.byte-index part (omega arith) in
+    (rw all at c.loop-byte.invariant.1) ∙ sym (count_is c.requires.width c.args.is part bytes)

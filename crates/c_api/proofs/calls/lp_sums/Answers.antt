@@ -4,4 +4,4 @@ use Rattle.c_api.specs.Worded.{two_of}
 use Rattle.c_api.proofs.calls.lp_sums.Goals as goal
 
 pub returns : goal.returns
-returns c = ap two_of (rw c.get.ensures at c.sums-found.ensures)
+returns c = rw c.from.ensures (ap two_of (rw c.get.ensures at c.sums-found.ensures))

@@ -9,9 +9,9 @@ pub returns-then-narrow-byte : goal.returns-then-narrow-byte
 unfolding kept
 returns-then-narrow-byte c = record { word_is = simp (← c.narrow.ensures, eq-eqb _ _ c.if-narrow-byte.true); stands = cc }
 
-pub returns : goal.returns
+pub returns-else-narrow-byte : goal.returns-else-narrow-byte
 unfolding kept narrowed
-returns c = record {
-  word_is = simp (← c.narrow.ensures, ne_eqb _ _ c.if-narrow-byte.false, c.wide.ensures);
-  stands = let h : c.args.byte < 256 = omega arith in simp (c.wide.ensures, lt-ltb _ _ h);
+returns-else-narrow-byte c = record {
+  word_is = simp (← c.narrow.ensures, ne_eqb _ _ c.if-narrow-byte.false, c.from.ensures);
+  stands = let h : c.args.byte < 256 = omega arith in simp (c.from.ensures, lt-ltb _ _ h);
 }

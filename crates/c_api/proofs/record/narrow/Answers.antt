@@ -7,6 +7,6 @@ pub returns-then-word-lt256 : goal.returns-then-word-lt256
 unfolding narrowed
 returns-then-word-lt256 c = simp (lt-ltb _ _ c.if-word-lt256.true)
 
-pub returns : goal.returns
+pub returns-else-word-lt256 : goal.returns-else-word-lt256
 unfolding narrowed
-returns c = simp (le-ltb _ _ c.if-word-lt256.false)
+returns-else-word-lt256 c = simp (le-ltb _ _ c.if-word-lt256.false)

@@ -1,5 +1,7 @@
 -- `c_api::record::told` meets its contract. Assumes nothing.
+use mathlib.Core.Path.{sym, ap}
+use Rattle.model.specs.Answers.{said_of}
 use Rattle.c_api.proofs.record.told.Goals as goal
 
-pub returns : goal.returns
-returns c = rw (c.number.ensures, c.place.ensures)
+pub returns-in-Err : goal.returns-in-Err
+returns-in-Err g c = rw (c.from.ensures, c.number.ensures, c.place.ensures) (ap said_of (sym c.in-Err.is))

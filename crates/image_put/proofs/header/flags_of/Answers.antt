@@ -5,5 +5,5 @@ use Rattle.image_put.proofs.header.flags_of.Goals as goal
 pub returns-then-kind-eq4 : goal.returns-then-kind-eq4
 returns-then-kind-eq4 c = simp (eq-eqb _ _ c.if-kind-eq4.true)
 
-pub returns : goal.returns
-returns c = simp (ne_eqb _ _ c.if-kind-eq4.false)
+pub returns-else-kind-eq4 : goal.returns-else-kind-eq4
+returns-else-kind-eq4 c = simp (ne_eqb _ _ c.if-kind-eq4.false)

@@ -1,12 +1,13 @@
--- `image_put::header::mode_of` meets its contract: each `return` by the tests that led there. Assumes nothing.
+-- `image_put::header::mode_of` meets its contract: each arm by its pattern. Assumes nothing.
 use borrow.Author.Tests.{eq-eqb, ne_eqb}
+use native.Mathlib.Omega.{arith}
 use Rattle.image_put.proofs.header.mode_of.Goals as goal
 
-pub returns-then-kind-eq8 : goal.returns-then-kind-eq8
-returns-then-kind-eq8 c = simp (eq-eqb _ _ c.if-kind-eq8.true)
+pub returns-in-8 : goal.returns-in-8
+returns-in-8 c = simp (eq-eqb _ _ c.in-8.is)
 
-pub returns-then-kind-eq6 : goal.returns-then-kind-eq6
-returns-then-kind-eq6 c = simp (ne_eqb _ _ c.if-kind-eq8.false, eq-eqb _ _ c.if-kind-eq6.true)
+pub returns-in-6 : goal.returns-in-6
+returns-in-6 c = simp (ne_eqb c.args.kind 8 (λ e. omega (arith, c.in-6.is)), eq-eqb _ _ c.in-6.is)
 
-pub returns : goal.returns
-returns c = simp (ne_eqb _ _ c.if-kind-eq8.false, ne_eqb _ _ c.if-kind-eq6.false)
+pub returns-in_default : goal.returns-in_default
+returns-in_default c = simp (ne_eqb c.args.kind 8 (λ e. omega arith), ne_eqb c.args.kind 6 (λ e. omega arith))

@@ -1,12 +1,9 @@
--- `packed::four::unpack` meets its contract. The two cells of each byte below `at` are filled in. Assumes nothing.
+-- `packed::four::unpack` meets its contract: the two cells of each byte below `at` are filled in. Assumes nothing.
 use native.Mathlib.Omega.{arith}
 use lib.ListN.{length-set}
 use Rattle.model.proofs.packing.Packing.{filled_all}
 use Rattle.packed.proofs.Cells.{filled_pair}
 use Rattle.packed.proofs.four.unpack.Goals as goal
-
-pub bounds-out-at-in-loop-at : goal.bounds-out-at-in-loop-at
-bounds-out-at-in-loop-at c = simp length-set (omega arith)
 
 pub loop-at-preserved : goal.loop-at-preserved
 loop-at-preserved c =

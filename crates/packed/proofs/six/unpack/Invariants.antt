@@ -1,5 +1,4 @@
 use mathlib.Core.Path.{◌≡◌}
-use Prim.Native.Nat.{◌-◌}
 use lib.ListN.{length}
 use Rattle.model.specs.Packed.{slot_at}
 use Rattle.model.proofs.packing.Packing.{Filled}
@@ -7,6 +6,3 @@ use Rattle.packed.proofs.six.unpack.Given as goal
 
 abbrev pub invariant-loop-slot : goal.invariant-loop-slot
 invariant-loop-slot l = (length l.out ≡ length l.initial.out) × Filled (slot_at 6 l.regs) l.out l.slot
-
-abbrev pub decreases-loop-slot : goal.decreases-loop-slot
-decreases-loop-slot l = length l.initial.out - l.slot

@@ -1,5 +1,4 @@
 use mathlib.Core.Path.{◌≡◌}
-use Prim.Native.Nat.{◌-◌}
 use lib.ListN.{length}
 use Rattle.model.specs.Packed.{slot_at}
 use Rattle.model.proofs.packing.Packing.{Filled}
@@ -7,6 +6,3 @@ use Rattle.packed.proofs.words.unpack.Given as goal
 
 abbrev pub invariant-loop-i : goal.invariant-loop-i
 invariant-loop-i l = (length l.out ≡ length l.initial.out) × Filled (slot_at 32 l.bytes) l.out l.i
-
-abbrev pub decreases-loop-i : goal.decreases-loop-i
-decreases-loop-i l = length l.initial.out - l.i

@@ -1,4 +1,0 @@
-use Rattle.image_faults.proofs.+windows.Given as goal
-
-abbrev pub decreases-windows : goal.decreases-windows
-decreases-windows l = l.b

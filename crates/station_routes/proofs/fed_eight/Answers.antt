@@ -1,7 +1,0 @@
--- `station_routes::fed_eight` meets its contract: what it lends is of the right size. Assumes nothing.
-use mathlib.Core.Path.{refl}
-use Rattle.station_routes.proofs.Rooms.{room_eight}
-use Rattle.station_routes.proofs.fed_eight.Goals as goal
-
-pub filled-sketch-requires : goal.filled-sketch-requires
-filled-sketch-requires c = room_eight refl
