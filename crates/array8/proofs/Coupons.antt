@@ -8,10 +8,9 @@ use lib.ListN.{length, get_or, set, length-set}
 use lib.Seq.{ext_get_or, get_or-set_same, get_or-set_other}
 use Rattle.model.specs.Registers.{fed, count_of}
 use Rattle.model.specs.Packed.{Bytes, number, slot_at, unpacked, Put}
-use Rattle.model.specs.Sketch.{is_kind}
 use Rattle.model.proofs.packing.Digits.{pow_mul, digit_number}
 use Rattle.model.proofs.packing.Packing.{unpacked_8, length_unpacked, get_or_unpacked}
-use Rattle.model.proofs.packing.Lengths.{bytes_eight}
+use Rattle.model.proofs.packing.Lengths.{bytes_eight, is_eight}
 use Rattle.plain.specs.Cells.{Held, Counted, Given}
 use Rattle.array8.specs.Asked.{Ready}
 use Rattle.array8.specs.Given.{Fed}
@@ -45,9 +44,8 @@ module _ {lgk zeros : ℕ} {R : List ℕ} (ready : Ready lgk zeros R) (b : Bytes
   reads S h e = ap (λ (k : ℕ). unpacked 8 k S) (sym (e ∙ ready.long)) ∙ unpacked_8 S h
 
   pub counted_8 : Counted 8 lgk zeros R
-  unfolding is_kind
   counted_8 = record {
-    shaped = record { kind_known = refl; low = ready.low; high = ready.high; long = ready.long ∙ sym (bytes_eight lgk) };
+    shaped = record { kind_known = is_eight; low = ready.low; high = ready.high; long = ready.long ∙ sym (bytes_eight lgk) };
     zeros_are = ready.zeros_are ∙ ap (count_of 0) (sym (reads R b refl));
   }
 

@@ -136,7 +136,7 @@ fn check_grow(area: &mut [u32], scratch: &mut [u32], size: usize, count: usize) 
         return size;
     }
     let twice = size + size;
-    scratch[..size].copy_from_slice(&area[..size]);
+    packed::eight::copy(&area[..size], &mut scratch[..size]);
     grow(&scratch[..size], &mut area[..twice]);
     twice
 }

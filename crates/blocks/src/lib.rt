@@ -20,7 +20,7 @@ pub fn cells(s: Sketch, regs: &[u8], from: usize, out: &mut [u8])
 {
     let n = out.len();
     match s.kind {
-        8 => out.copy_from_slice(&regs[from..from + n]),
+        8 => packed::eight::copy(&regs[from..from + n], out),
         6 => {
             let at = from / 4 * 3;
             packed::six::unpack(&regs[at..at + n / 4 * 3 + 1], out)

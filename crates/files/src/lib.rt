@@ -1,26 +1,46 @@
 // What the programs read and write: thin, since no contract can say what a file holds.
 #![tactic(auto)]
 
-ghost use Rattle.std.specs.Prelude.{ℕ, ◌-◌, ◌≤◌, ◌<◌, ◌≡◌, ◌++◌, length, get_or};
+ghost use Rattle.std.specs.Prelude.{ℕ, ◌-◌, ◌≤◌, ◌<◌, ◌≡◌, ◌++◌, length, get_or, IfErr};
 ghost use Rattle.std.specs.Io.{ReadsAtMost};
 ghost use Rattle.io.specs.Counts.{IsPrefixLen};
 ghost use Rattle.text.specs.Text.{text, decimal};
 
-use std::fs;
 use std::fs::{OpenFile, OpenOptions, Permissions};
 use std::io::{Error, ErrorKind, Read, Result, Write};
 use std::os::unix::fs::{OpenOptionsExt, PermissionsExt};
 use std::rt::Files;
+use std::{fs, result};
 use text::Text;
 
-// Reads until buf is full or the input ends, and tells how many bytes came. A read moves the place on by what it says came, so no `for`
+// A read that failed, and how many bytes had come before it.
+#[derive(Clone, Copy)]
+pub struct Cut {
+    pub came: usize,
+    pub why: Error,
+}
+
+// A file that could not be opened: nothing came.
+impl From<Error> for Cut {
+    ghost from_gives = { λ why cut. (cut.came ≡ 0) × (cut.why ≡ why) };
+
+    fn from(why: Error) -> Cut {
+        Cut { came: 0, why }
+    }
+}
+
+// Reads until buf is full or the input ends, and tells how many bytes came, also where a read fails. A read moves the place on by what it says came, so no `for`
 // counts it, and std has only `read_exact`, for which the end of the input is an error, and `read_to_end`, which needs a heap.
-pub fn read_all<R: Read>(input: &mut R, buf: &mut [u8]) -> Result<usize>
-    ensures { ReadsAtMost result buf.new }
+pub fn read_all<R: Read>(input: &mut R, buf: &mut [u8]) -> result::Result<usize, Cut>
+    ensures all { ReadsAtMost result buf.new }
+    ensures cut { IfErr result (λ cut. IsPrefixLen cut.came buf.new) }
 {
     let mut done = 0;
     while done < buf.len() {
-        let n = input.read(&mut buf[done..])?;
+        let n = match input.read(&mut buf[done..]) {
+            Ok(n) => n,
+            Err(why) => return Err(Cut { came: done, why }),
+        };
         if n == 0 {
             break;
         }
@@ -44,8 +64,9 @@ pub fn open<R: Files>(rt: &R, path: &[u8]) -> Result<R::File> {
 }
 
 // As much of the file as buf has room for.
-pub fn load<R: Files>(rt: &R, path: &[u8], buf: &mut [u8]) -> Result<usize>
-    ensures { ReadsAtMost result buf.new }
+pub fn load<R: Files>(rt: &R, path: &[u8], buf: &mut [u8]) -> result::Result<usize, Cut>
+    ensures all { ReadsAtMost result buf.new }
+    ensures cut { IfErr result (λ cut. IsPrefixLen cut.came buf.new) }
 {
     let mut file = open(rt, path)?;
     read_all(&mut file, buf)

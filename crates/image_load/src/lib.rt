@@ -40,7 +40,7 @@ pub fn load(
 {
     image_check::check(image, regs.len(), aux.len(), scratch.len())?;
     let end = REGISTERS_BYTE + regs.len();
-    regs.copy_from_slice(&image.bytes[REGISTERS_BYTE..end]);
+    packed::eight::copy(&image.bytes[REGISTERS_BYTE..end], regs);
     lay(image, aux, scratch);
     Ok(Sketch::from(image.header))
 }

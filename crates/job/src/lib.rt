@@ -65,9 +65,9 @@ fn size_in(job: &[u8]) -> Option<u8>
 
 // How many `in=` lines stand from a place on, at most IMAGES, and where they end.
 #[derive(Clone, Copy)]
-struct Listed {
-    files: usize,
-    end: usize,
+pub struct Listed {
+    pub files: usize,
+    pub end: usize,
 }
 
 fn lines_in(job: &[u8], at: usize) -> Listed

@@ -96,8 +96,12 @@ module _ (l : List ℕ) (s : Sketch) (regs : List ℕ) (w : Whole l s regs) wher
   write_ok buf new (Ok len) e b = refl
   write_ok buf new (Err f) e b = absurd (refusal_some f (ap (λ (w : Written). w.no) e ∙ accepted_small s regs small buf b))
 
-  pub written : (buf new : List ℕ) (r : Result ℕ Refusal) (len : ℕ) → wrote_out r new ≡ write_of s regs [] buf → r ≡ Ok len → length buf ≡ 4136 → (take len new ≡ image_in s regs []) × (len ≤ 4136)
-  written buf new r len e q = written_small s regs small buf (wrote 0 len new) (ap (λ (r : Result ℕ Refusal). wrote_out r new) (sym q) ∙ e)
+  pub written : (buf : List ℕ) (w : Written) → w ≡ write_of s regs [] buf → length buf ≡ 4136 → (take w.len w.out ≡ image_in s regs []) × (w.len ≤ 4136)
+  written buf w e b = written_small s regs small buf w e b
+
+  -- the same of what the call gave, which is a length
+  pub written_len : (buf new : List ℕ) (r : Result ℕ Refusal) (len : ℕ) → wrote_out r new ≡ write_of s regs [] buf → r ≡ Ok len → length buf ≡ 4136 → (take len new ≡ image_in s regs []) × (len ≤ 4136)
+  written_len buf new r len e q = written buf (wrote 0 len new) (ap (λ (r : Result ℕ Refusal). wrote_out r new) (sym q) ∙ e)
 
   pub tellable : Bytes regs → Registers regs
   tellable b = eight_registers s regs [] small.2.eight b small.2.good

@@ -9,6 +9,7 @@ ghost use Rattle.merge_job.specs.declared.Fault.TheVariants.{Io, Refused};
 ghost use Rattle.merge_job.specs.Merge.{front_no, large_no, join_of, take_of};
 ghost use Rattle.merge_job.specs.Promised.{fault_no, fault_place, answer_no, taken_out, Took, TookSome, Ran, Lists, Opened, Asked, Whole, Puts, Finished, Reported};
 
+use files::Cut;
 use image_header::Image;
 use job::Places;
 use model::{Refusal, Sketch};
@@ -74,6 +75,14 @@ impl From<io::Error> for Fault {
     }
 }
 
+impl From<Cut> for Fault {
+    ghost from_gives = { λ _ fault. fault ≡ Io };
+
+    fn from(cut: Cut) -> Fault {
+        Fault::from(cut.why)
+    }
+}
+
 // LONG, and the header's own refusals.
 fn read_front(image: &[u8]) -> Result<Image<'_>, Fault>
     ensures answer { answer_no result ≡ front_no image.now }
@@ -130,7 +139,7 @@ pub fn take(target: Sketch, tregs: &mut [u8], image: &[u8]) -> Result<Sketch, Fa
 fn take_got(
     target: Sketch,
     tregs: &mut [u8],
-    got: io::Result<usize>,
+    got: Result<usize, Cut>,
     image: &[u8],
 ) -> Result<Sketch, Fault>
     requires { ReadsAtMost got image.now }

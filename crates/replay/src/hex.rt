@@ -1,5 +1,5 @@
 // Reading lines: a line's letter, and the bytes and words that its digits say. What can't be read whole is None.
-ghost use Rattle.std.specs.Prelude.{◌<◌};
+ghost use Rattle.std.specs.Prelude.{◌≤◌, ◌<◌, length};
 ghost use Rattle.std.specs.Option.{IfSome};
 
 // Small letters alone: to_digit would take capital ones as well.
@@ -18,7 +18,9 @@ fn pair(high: u8, low: u8) -> Option<u8> {
 }
 
 // The bytes that pairs of digits say, in the front of out.
-fn bytes<'a>(digits: &[u8], out: &'a mut [u8]) -> Option<&'a [u8]> {
+fn bytes<'a>(digits: &[u8], out: &'a mut [u8]) -> Option<&'a [u8]>
+    ensures { IfSome result (λ said. length said.now ≤ length out.old) }
+{
     let (pairs, odd) = digits.as_chunks::<2>();
     if !odd.is_empty() || out.len() < pairs.len() {
         return None;
@@ -30,13 +32,17 @@ fn bytes<'a>(digits: &[u8], out: &'a mut [u8]) -> Option<&'a [u8]> {
 }
 
 // The letter, and the bytes. A line without its line feed was cut.
-pub fn line<'a>(line: &[u8], out: &'a mut [u8]) -> Option<(u8, &'a [u8])> {
+pub fn line<'a>(line: &[u8], out: &'a mut [u8]) -> Option<(u8, &'a [u8])>
+    ensures { IfSome result (λ said. length said.1.now ≤ length out.old) }
+{
     let (letter, digits) = line.strip_suffix(b"\n")?.split_first()?;
     Some((*letter, bytes(digits, out)?))
 }
 
 // The words that these bytes say, in the front of out.
-pub fn words<'a>(bytes: &[u8], out: &'a mut [u32]) -> Option<&'a [u32]> {
+pub fn words<'a>(bytes: &[u8], out: &'a mut [u32]) -> Option<&'a [u32]>
+    ensures { IfSome result (λ said. length said.now ≤ length out.old) }
+{
     let (quads, odd) = bytes.as_chunks::<4>();
     if !odd.is_empty() || out.len() < quads.len() {
         return None;

@@ -17,11 +17,11 @@ pub struct Held<const REGS: usize, const AUX: usize> {
 }
 
 // 32 registers of kinds 4 and 6, 16 of kind 8. Only kind 4 uses its area.
-type Four = Held<16, 64>;
+pub type Four = Held<16, 64>;
 
-type Six = Held<25, 1>;
+pub type Six = Held<25, 1>;
 
-type Eight = Held<16, 1>;
+pub type Eight = Held<16, 1>;
 
 // Memory is lent with anything in it. With so much room no call refuses. The kind is a number, as `start` takes it.
 fn filled<const REGS: usize, const AUX: usize>(

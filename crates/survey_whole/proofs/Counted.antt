@@ -1,5 +1,5 @@
 -- Cells counted byte after byte, and the largest, over the width. Assumes nothing.
-use mathlib.Core.Path.{◌≡◌, sym, ◌∙◌, ap, subst}
+use mathlib.Core.Path.{◌≡◌, refl, sym, ◌∙◌, ap, subst}
 use mathlib.Core.Bool.{Bool, true, false}
 use mathlib.Core.Logic.{⊎_elim}
 use mathlib.Core.List.{List, [], ◌∷◌}
@@ -17,7 +17,8 @@ use Rattle.model.specs.Pick.{pick}
 use Rattle.model.specs.Registers.{count_of}
 use Rattle.model.specs.Packed.{Bytes, number, digits, unpacked}
 use Rattle.model.proofs.packing.ByteLists.{bytes_take, bytes_drop}
-use Rattle.model.proofs.packing.Packing.{get_or_unpacked}
+use Rattle.model.proofs.packing.Digits.{digits_append, digits_shifted}
+use Rattle.model.proofs.packing.Packing.{get_or_unpacked, unpacked_none}
 use Rattle.packed.proofs.Cells.{get_one}
 use Rattle.survey_whole.specs.Whole.{Width, plain, highest, most}
 
@@ -59,23 +60,29 @@ one_more false r = omega arith
 
 -- the cells of a byte and of those after it
 two_cells : (b : ℕ) (bs : List ℕ) → b < 256 → cells 4 (b ∷ bs) ≡ b % 16 ∷ (b / 16 ∷ cells 4 bs)
-unfolding unpacked digits number
+unfolding unpacked number
 two_cells b bs l =
     let n = number 256 bs in
-    let long : 2 * suc (length bs) ≡ suc (suc (2 * length bs)) = omega arith in
-    let low : (n * 256 + b) % 16 ≡ b % 16 = omega arith in
-    let high : (n * 256 + b) / 16 % 16 ≡ b / 16 = omega arith in
-    let others : (n * 256 + b) / 16 / 16 ≡ n = omega arith in
-    rw (long, low, high, others)
+    let m = n * 256 + b in
+    let long : 2 * suc (length bs) ≡ 2 + 2 * length bs = omega arith in
+    let low : m % 16 ≡ b % 16 = omega arith in
+    let high : m / 16 % 16 ≡ b / 16 = omega arith in
+    let others : m / 256 ≡ n = omega arith in
+    ap (λ (k : ℕ). digits 16 k m) long
+    ∙ digits_append 16 2 (2 * length bs) m
+    ∙ rw (digits_shifted 16 1 m, low, high, others) refl
 
 one_cell : (b : ℕ) (bs : List ℕ) → b < 256 → cells 8 (b ∷ bs) ≡ b ∷ cells 8 bs
-unfolding unpacked digits number
+unfolding unpacked number
 one_cell b bs l =
     let n = number 256 bs in
-    let long : 1 * suc (length bs) ≡ suc (1 * length bs) = omega arith in
-    let low : (n * 256 + b) % 256 ≡ b = omega arith in
-    let others : (n * 256 + b) / 256 ≡ n = omega arith in
-    rw (long, low, others)
+    let m = n * 256 + b in
+    let long : 1 * suc (length bs) ≡ 1 + 1 * length bs = omega arith in
+    let low : m % 256 ≡ b = omega arith in
+    let others : m / 256 ≡ n = omega arith in
+    ap (λ (k : ℕ). digits 256 k m) long
+    ∙ digits_append 256 1 (1 * length bs) m
+    ∙ rw (digits_shifted 256 0 m, low, others) refl
 
 count_cons : {w : ℕ} → Width w → (v b : ℕ) (bs : List ℕ) → b < 256 → count_of v (cells w (b ∷ bs)) ≡ hit w v b + count_of v (cells w bs)
 unfolding count_of
@@ -86,8 +93,8 @@ count_cons width v b bs l =
     (rw (one_cell b bs l) (one_more (eqb b v) (count_of v (cells 8 bs)))) width
 
 pub count_is : {w : ℕ} → Width w → (v : ℕ) (regs : List ℕ) → Bytes regs → count_of v (cells w regs) ≡ sum_by (hit w v) regs
-unfolding unpacked digits count_of
-count_is {w} width v [] bytes = rw (mul-zero (8 / w))
+unfolding count_of
+count_is {w} width v [] bytes = rw (mul-zero (8 / w), unpacked_none w []) refl
 count_is {w} width v (b ∷ bs) bytes =
     count_cons width v b bs (bytes 0) ∙ ap (λ (n : ℕ). hit w v b + n) (count_is width v bs (λ i. bytes (suc i))) ∙ sym (sum_by-cons (hit w v) b bs)
 

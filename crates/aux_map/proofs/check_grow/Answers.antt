@@ -7,4 +7,4 @@ returns-then-count-size c = growing.stays _ _ _ _ c.requires c.if-count-size.tru
 
 pub returns : goal.returns
 returns c =
-    growing.grows _ _ _ _ c.requires c.if-count-size.false _ c.copy_from_slice.ensures.after _ c.grow.ensures
+    growing.grows _ _ _ _ c.requires c.if-count-size.false _ c.copy.ensures _ c.grow.ensures

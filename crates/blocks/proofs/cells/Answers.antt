@@ -3,12 +3,12 @@ use native.Mathlib.Omega.{arith}
 use Rattle.blocks.proofs.Slots.{fits_8, fits_6, fits_4, is_4, part_6, cells_8, cells_6, cells_4}
 use Rattle.blocks.proofs.cells.Goals as goal
 
-pub slice_bounds-copy_from_slice-end : goal.slice_bounds-copy_from_slice-end
-slice_bounds-copy_from_slice-end c = fits_8 c.requires c.in-8.is
+pub slice_bounds-copy-end : goal.slice_bounds-copy-end
+slice_bounds-copy-end c = fits_8 c.requires c.in-8.is
 
 pub returns-in-8 : goal.returns-in-8
 returns-in-8 c =
-    cells_8 _ _ c.requires (λ i. (c.type_inv.regs i).fits) c.in-8.is c.copy_from_slice.ensures.after
+    cells_8 _ _ c.requires (λ i. (c.type_inv.regs i).fits) c.in-8.is c.copy.ensures
 
 pub slice_bounds-unpack-end : goal.slice_bounds-unpack-end
 slice_bounds-unpack-end c = fits_6 c.requires c.in-6.is

@@ -43,9 +43,9 @@ returns-in_err-check c =
     ap (λ (r : Result Sketch Refusal). made_out r a.regs.now a.aux.now) (handed_on _ c.from_residual.ensures.1)
     ∙ open_refused a.image.bytes.now a.regs.now a.aux.now a.scratch.now c.in_err-check.ensures (refusal_some _)
 
-pub slice_bounds-copy_from_slice-end : goal.slice_bounds-copy_from_slice-end
-slice_bounds-copy_from_slice-end c =
-    let passed = (goal.at.slice_bounds-copy_from_slice-end c).In_ok-check in
+pub slice_bounds-copy-end : goal.slice_bounds-copy-end
+slice_bounds-copy-end c =
+    let passed = (goal.at.slice_bounds-copy-end c).In_ok-check in
     omega (arith, size passed, payload_here (sound _ _ _ (accepted passed)))
 
 pub lay-requires : goal.lay-requires
@@ -58,6 +58,6 @@ returns c =
     let a = c.args in
     let l = a.image.bytes.now in
     let is = is_in _ _ _ (accepted past.In_ok-check) in
-    (λ i. out 0 0 ((c.from.ensures ∙ is) i) 0 ((c.copy_from_slice.ensures.after ∙ regs_part l (record_in a.image.header) is _ (size past.In_ok-check)) i)
+    (λ i. out 0 0 ((c.from.ensures ∙ is) i) 0 ((c.copy.ensures ∙ regs_part l (record_in a.image.header) is _ (size past.In_ok-check)) i)
     ((c.lay.ensures ∙ ap (λ (r : Sketch). area_of r.kind (made (base_for r.lg_k) (map (homed (2 ^ r.lg_k)) (entries_in l))) a.aux.now) is) i))
     ∙ sym (opens_to l a.regs.now a.aux.now a.scratch.now (passed past.In_ok-check))

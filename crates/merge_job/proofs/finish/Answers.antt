@@ -5,7 +5,7 @@ use lib.Seq.{length-take-le}
 use borrow.Author.Rules.{rules}
 use Rattle.std.proofs.lemmas.Bool.{some_since}
 use Rattle.std.proofs.lemmas.Option.{MatchOption-at_some}
-use Rattle.merge_job.proofs.Ends.{out_found, write_ok, written, tellable, puts}
+use Rattle.merge_job.proofs.Ends.{out_found, write_ok, written_len, tellable, puts}
 use Rattle.merge_job.proofs.finish.Goals as goal
 
 pub unwrap-len-requires : goal.unwrap-len-requires
@@ -15,15 +15,15 @@ pub unwrap-path-requires : goal.unwrap-path-requires
 unwrap-path-requires g c = some_since _ _ _ c.path_in.ensures (out_found c.args.job.now _ _ c.requires.0 c.args.places c.requires.1)
 
 pub slice_bounds-image-end : goal.slice_bounds-image-end
-slice_bounds-image-end g c = let w = (written _ _ _ c.requires.0 _ _ _ _ c.write.ensures c.unwrap-len.ensures (search rules)).1 in omega arith
+slice_bounds-image-end g c = let w = (written_len _ _ _ c.requires.0 _ _ _ _ c.write.ensures c.unwrap-len.ensures (search rules)).1 in omega arith
 
 pub slice_bounds-put-end : goal.slice_bounds-put-end
-slice_bounds-put-end g c = let w = (written _ _ _ c.requires.0 _ _ _ _ c.write.ensures c.unwrap-len.ensures (search rules)).1 in sym (length-take-le _ _ (omega arith))
+slice_bounds-put-end g c = let w = (written_len _ _ _ c.requires.0 _ _ _ _ c.write.ensures c.unwrap-len.ensures (search rules)).1 in sym (length-take-le _ _ (omega arith))
 
 pub put-requires : goal.put-requires
 put-requires g c =
     puts c.args.job.now _ _ c.requires.0 c.args.places c.requires.1 _ (MatchOption-at_some _ _ _ c.unwrap-path.ensures c.path_in.ensures) _
-    (written _ _ _ c.requires.0 _ _ _ _ c.write.ensures c.unwrap-len.ensures (search rules)).0
+    (written_len _ _ _ c.requires.0 _ _ _ _ c.write.ensures c.unwrap-len.ensures (search rules)).0
 
 pub merged-requires : goal.merged-requires
 merged-requires g c =
